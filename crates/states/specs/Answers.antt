@@ -1,0 +1,20 @@
+-- What each answer says: yes or no.
+use mathlib.Core.Bool.{Bool, true, false}
+use mathlib.Core.List.{List}
+use Prim.Native.Nat.{ℕ}
+use lib.Chars.{codes}
+use Rattle.states.specs.declared.answer.Answer.{Answer}
+use Rattle.states.specs.declared.answer.Answer.the-variants.{Yes, No}
+
+abbrev pub said : Answer → Bool
+said Yes = true
+said No = false
+
+-- the answer that says so
+abbrev pub answered : Bool → Answer
+answered true = Yes
+answered false = No
+
+abbrev pub word : Answer → List ℕ
+word Yes = codes "yes"
+word No = codes "no"

@@ -1,0 +1,17 @@
+-- The valve record's vocabulary, and what each of its atoms means.
+use mathlib.Core.Bool.{Bool}
+use mathlib.Core.List.{List, [], _∷_}
+use lib.Chars.{codes}
+use lib.Dec.{eqb, ltb}
+use Rattle.states.specs.Atoms.{Atom}
+use Rattle.states.specs.declared.valve.ValveRecord.{ValveRecord}
+
+abbrev pub pumping : ValveRecord → Bool
+pumping v = eqb (v .pump) 1
+
+-- at least one valve bit is set
+abbrev pub some-open : ValveRecord → Bool
+some-open v = ltb 0 (v .bits)
+
+abbrev pub valve-atoms : List (Atom ValveRecord)
+valve-atoms = record { word = codes "pumping"; means = pumping } ∷ (record { word = codes "open"; means = some-open } ∷ [])

@@ -1,0 +1,80 @@
+ghost use mathlib.Core.List.{List};
+ghost use mathlib.Core.Path.{_≡_};
+ghost use Prim.Native.Nat.{_/_, _<_};
+ghost use denote.Ref.{now};
+ghost use lib.ListN.{length};
+ghost use Rattle.states.specs.declared.valve.ValveRecord.{ValveRecord};
+ghost use Rattle.std.specs.Results.{Cases};
+ghost use Rattle.tapes.specs.Valves.{Holds, Unreadable, valve-at, valves};
+use crate::tape::Tape;
+use refusals::Cause;
+use refusals::Refusal;
+use states::valve::ValveRecord;
+use states::valve::answers::ValveState;
+
+// A tape of valve records over lent bytes, three a record, to read. `new` is the only source, and
+// takes no pump byte above 1.
+#[derive(Clone, Copy)]
+pub struct ValveTape<'a> {
+    pub(crate) bytes: &'a [u8],
+}
+
+impl<'a> ValveTape<'a> {
+    // The tape of all the bytes. They are refused where a record is cut off, or else at the first
+    // record whose pump byte exceeds 1. Bytes that hold records are read back as those.
+    pub fn new(bytes: &'a [u8]) -> Result<ValveTape<'a>, Refusal>
+        ensures made { λ r. ⌜ Cases r
+            (λ t. (now (t .bytes) ≡ now (bytes .entry)) × Holds (now (bytes .entry)) (valves (length (now (t .bytes)) / 3) (now (t .bytes))))
+            (Unreadable (now (bytes .entry))) ⌝ }
+        ensures again { λ r. ⌜ ((records : List ValveRecord) → Holds (now (bytes .entry)) records → Cases r
+            (λ t. valves (length (now (t .bytes)) / 3) (now (t .bytes)) ≡ records)
+            (λ _. ⊥)) ⌝ }
+    {
+        if bytes.len() % 3 != 0 {
+            return Err(Refusal {
+                cause: Cause::PartialRecord,
+                place: bytes.len(),
+            });
+        }
+        for place in 0..bytes.len() / 3 {
+            if bytes[3 * place + 2] > 1 {
+                return Err(Refusal {
+                    cause: Cause::PumpTooLarge,
+                    place,
+                });
+            }
+        }
+        Ok(ValveTape { bytes })
+    }
+}
+
+pub impl<'a> Tape for ValveTape<'a> as ValveTapeTape {
+    type Item = ValveRecord;
+
+    ghost states = { λ t. valves (length (now (t .bytes)) / 3) (now (t .bytes)) };
+
+    fn len(&self) -> usize {
+        self.bytes.len() / 3
+    }
+
+    fn at(&self, place: usize) -> Option<ValveRecord> {
+        if place < self.bytes.len() / 3 {
+            Some(read_record(self.bytes, place))
+        } else {
+            None
+        }
+    }
+}
+
+// The record at a place of bytes whose pump bytes are lawful.
+fn read_record(bytes: &[u8], place: usize) -> ValveRecord
+    requires { ⌜ place < length (now bytes) / 3 ⌝ }
+    ensures { λ r. ⌜ r ≡ valve-at (now (bytes .entry)) place ⌝ }
+{
+    let at = 3 * place;
+    let bits = u16::from_be_bytes([bytes[at], bytes[at + 1]]);
+    match ValveRecord::new(bits, bytes[at + 2].min(1)) {
+        Ok(record) => record,
+        Err(_) => unreachable(),
+    }
+}
