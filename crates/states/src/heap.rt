@@ -6,7 +6,9 @@ ghost use Rattle.std.specs.Results.{Cases};
 use refusals::Cause;
 use refusals::Refusal;
 
-pub mod answers;
+mod answers;
+
+pub use answers::HeapState;
 
 // What the controller noted of its heap: bytes free, the largest free block, the bytes wanted, and
 // what came of it. Every record there is is lawful: `new` is the only source.

@@ -5,7 +5,9 @@ ghost use Rattle.std.specs.Results.{Cases};
 use refusals::Cause;
 use refusals::Refusal;
 
-pub mod answers;
+mod answers;
+
+pub use answers::ValveState;
 
 // What the controller noted of its valves: sixteen valve bits, and whether the pump ran (0 or 1).
 #[derive(Clone, Copy, PartialEq, Eq, Debug)]

@@ -1,16 +1,16 @@
 ghost use mathlib.Core.List.{List};
 ghost use mathlib.Core.Path.{_≡_};
 ghost use Prim.Native.Nat.{_/_, _<_};
-ghost use denote.Ref.{now};
 ghost use lib.ListN.{length};
 ghost use Rattle.states.specs.declared.valve.ValveRecord.{ValveRecord};
 ghost use Rattle.std.specs.Results.{Cases};
-ghost use Rattle.tapes.specs.Valves.{Holds, Unreadable, valve-at, valves};
+ghost use Rattle.tapes.specs.Lent.{valve-tape-states};
+ghost use Rattle.tapes.specs.Valves.{Holds, Unreadable, valve-at};
 use crate::tape::Tape;
 use refusals::Cause;
 use refusals::Refusal;
 use states::valve::ValveRecord;
-use states::valve::answers::ValveState;
+use states::valve::ValveState;
 
 // A tape of valve records over lent bytes, three a record, to read. `new` is the only source, and
 // takes no pump byte above 1.
@@ -24,10 +24,10 @@ impl<'a> ValveTape<'a> {
     // record whose pump byte exceeds 1. Bytes that hold records are read back as those.
     pub fn new(bytes: &'a [u8]) -> Result<ValveTape<'a>, Refusal>
         ensures made { λ r. ⌜ Cases r
-            (λ t. (now (t .bytes) ≡ now (bytes .entry)) × Holds (now (bytes .entry)) (valves (length (now (t .bytes)) / 3) (now (t .bytes))))
+            (λ t. (now (t .bytes) ≡ now (bytes .entry)) × Holds (now (bytes .entry)) (valve-tape-states t))
             (Unreadable (now (bytes .entry))) ⌝ }
         ensures again { λ r. ⌜ ((records : List ValveRecord) → Holds (now (bytes .entry)) records → Cases r
-            (λ t. valves (length (now (t .bytes)) / 3) (now (t .bytes)) ≡ records)
+            (λ t. valve-tape-states t ≡ records)
             (λ _. ⊥)) ⌝ }
     {
         if bytes.len() % 3 != 0 {
@@ -51,7 +51,7 @@ impl<'a> ValveTape<'a> {
 pub impl<'a> Tape for ValveTape<'a> as ValveTapeTape {
     type Item = ValveRecord;
 
-    ghost states = { λ t. valves (length (now (t .bytes)) / 3) (now (t .bytes)) };
+    ghost states = { valve-tape-states };
 
     fn len(&self) -> usize {
         self.bytes.len() / 3

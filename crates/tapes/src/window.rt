@@ -1,9 +1,10 @@
 ghost use mathlib.Core.Path.{_≡_};
 ghost use mathlib.Core.Logic.{_⊎_};
-ghost use Prim.Native.Nat.{_-_, _<_, _≤_};
-ghost use lib.ListN.{drop, length, take};
+ghost use Prim.Native.Nat.{_<_, _≤_};
+ghost use lib.ListN.{length};
 ghost use Rattle.refusals.specs.Causes.{number};
 ghost use Rattle.std.specs.Results.{Cases};
+ghost use Rattle.std.specs.shelf.Lists.{between};
 use crate::tape::Tape;
 use refusals::Cause;
 use refusals::Refusal;
@@ -46,7 +47,7 @@ impl<T: Tape> Window<T> {
 pub impl<T: Tape> Tape for Window<T> as WindowTape {
     type Item = T::Item;
 
-    ghost states = { λ w. take (w .end - w .start) (drop (w .start) (T·Tape .states (w .below))) };
+    ghost states = { λ w. between (w .start) (w .end) (T·Tape .states (w .below)) };
 
     fn len(&self) -> usize {
         self.end.min(self.below.len()).saturating_sub(self.start)

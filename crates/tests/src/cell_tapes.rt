@@ -6,7 +6,7 @@ use refusals::RefusalPartialEq;
 use states::heap::HeapRecord;
 use states::heap::HeapRecordDebug;
 use states::heap::HeapRecordPartialEq;
-use states::heap::answers::HeapState;
+use states::heap::HeapState;
 use std::test::*;
 use tapes::cells::Cells;
 use tapes::cells::CellsTape;

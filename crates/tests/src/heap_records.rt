@@ -9,7 +9,7 @@ use states::answer::AnswerPartialEq;
 use states::heap::HeapRecord;
 use states::heap::HeapRecordDebug;
 use states::heap::HeapRecordPartialEq;
-use states::heap::answers::HeapState;
+use states::heap::HeapState;
 use states::state::State;
 use std::test::*;
 

@@ -6,7 +6,7 @@ ghost use Rattle.tapes.specs.Valves.{written};
 ghost use Rattle.std.specs.declared.option.Option.the-variants.{Some};
 use states::state::State;
 use states::valve::ValveRecord;
-use states::valve::answers::ValveState;
+use states::valve::ValveState;
 use tapes::log::Log;
 use tapes::log::LogGrows;
 use tapes::tape::GrowingTape;

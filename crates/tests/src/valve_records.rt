@@ -10,7 +10,7 @@ use states::state::State;
 use states::valve::ValveRecord;
 use states::valve::ValveRecordDebug;
 use states::valve::ValveRecordPartialEq;
-use states::valve::answers::ValveState;
+use states::valve::ValveState;
 use std::test::*;
 
 #[test]

@@ -6,7 +6,7 @@ use refusals::RefusalPartialEq;
 use states::valve::ValveRecord;
 use states::valve::ValveRecordDebug;
 use states::valve::ValveRecordPartialEq;
-use states::valve::answers::ValveState;
+use states::valve::ValveState;
 use std::test::*;
 use tapes::tape::GrowingTape;
 use tapes::tape::Tape;

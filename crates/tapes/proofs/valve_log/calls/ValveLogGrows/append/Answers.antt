@@ -3,9 +3,9 @@ use mathlib.Core.List.{List}
 use Prim.Native.Nat.{ℕ, _+_, _/_, _<_}
 use native.Mathlib.Omega.{arith}
 use lib.ListN.{length}
-use Rattle.tapes.specs.Valves.{valves}
+use Rattle.tapes.specs.Valves.{valves, written}
 use Rattle.tapes.proofs.Bytes.{Kept, kept-past, kept-written, length-valves, length-written, stored-is, valves-written}
-use Rattle.tapes.proofs.valve_log.ValveLogGrows.append.Needs as need
+use Rattle.tapes.proofs.valve_log.calls.ValveLogGrows.append.Needs as need
 
 pub returns-then-place-self : need.returns-then-place-self
 returns-then-place-self c =
@@ -46,14 +46,15 @@ returns c =
     let log = c .args .self .now in
     let before = log .bytes .now in
     let v = c .args .state in
+    let held = length-valves (log .used) before in
     let room : log .used < length before / 3 = omega (arith, log .within, c .if-place-self .left) in
     let is = stored-is before (log .used) v (c .bits .result) (c .pump .result) (c .to-be-bytes .result) (c .bits .ensures) (c .bits .ok) (c .to-be-bytes .ensures) (c .pump .ensures) in
     record {
       kept = ap (λ (xs : List ℕ). length xs / 3) is ∙ ap (λ n. n / 3) (length-written before (log .used) v);
       grown = record {
-        room = λ full. omega (arith, full, length-valves (log .used) before);
+        room = λ full. omega (arith, full, held);
         longer = ap (valves (log .used + 1)) is ∙ valves-written before (log .used) v room;
       };
-      bytes = is;
+      bytes = is ∙ ap (λ n. written before n v) (sym held);
       lender = refl;
     }
