@@ -1,4 +1,4 @@
--- The number and the part of each cause, the word of each part, and how a refusal is printed.
+-- The number and the part of each cause, how each part is printed, and a refusal.
 use Prim.Native.Nat.{ℕ}
 use mathlib.Core.List.{List, _++_}
 use lib.Chars.{codes}
@@ -44,15 +44,14 @@ part cause.TooManyWaits = part-of.Watch
 part cause.TapeFull = part-of.Tape
 part cause.TrailingBytes = part-of.Job
 
-abbrev pub word : Part → List ℕ
-word part-of.Text = codes "text"
-word part-of.Record = codes "record"
-word part-of.Tape = codes "tape"
-word part-of.Window = codes "window"
-word part-of.Reader = codes "reader"
-word part-of.Watch = codes "watch"
-word part-of.Job = codes "job"
+abbrev pub part-text : Part → List ℕ
+part-text part-of.Text = codes "text"
+part-text part-of.Record = codes "record"
+part-text part-of.Tape = codes "tape"
+part-text part-of.Window = codes "window"
+part-text part-of.Reader = codes "reader"
+part-text part-of.Watch = codes "watch"
+part-text part-of.Job = codes "job"
 
--- how a refusal is printed
 abbrev pub line : ℕ → ℕ → Part → List ℕ
-line cause place p = codes "refused " ++ (decimal cause ++ (codes " at " ++ (decimal place ++ (codes " in " ++ word p))))
+line n place p = codes "refused " ++ (decimal n ++ (codes " at " ++ (decimal place ++ (codes " in " ++ part-text p))))

@@ -2,7 +2,7 @@
 // and the refusal that carries a cause to its place.
 ghost use mathlib.Core.Path.{_≡_};
 ghost use Prim.Native.Nat.{_≤_};
-ghost use Rattle.refusals.specs.Causes.{line, number, part, word};
+ghost use Rattle.refusals.specs.Causes.{line, number, part, part-text};
 ghost use Rattle.refusals.specs.declared.Cause.{Cause};
 ghost use Rattle.std.specs.declared.option.Option.the-variants.{Some};
 use std::error::Error;
@@ -80,9 +80,9 @@ impl Cause {
 }
 
 impl Part {
-    // The part's word, as it is printed.
-    pub fn word(self) -> &'static str
-        ensures { λ r. ⌜ now r ≡ word self ⌝ }
+    // The part as it is printed.
+    pub fn as_str(self) -> &'static str
+        ensures { λ r. ⌜ now r ≡ part-text self ⌝ }
     {
         match self {
             Part::Text => "text",
@@ -103,7 +103,7 @@ pub impl fmt::Display for Refusal as RefusalDisplay {
     fn fmt<W: fmt::Write>(&self, f: &mut fmt::Formatter<W>) -> fmt::Result {
         let number = self.cause.number();
         let place = self.place;
-        let part = self.cause.part().word();
+        let part = self.cause.part().as_str();
         write!(f, "refused {number} at {place} in {part}")
     }
 }

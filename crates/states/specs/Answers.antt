@@ -1,4 +1,4 @@
--- What each answer says: yes or no.
+-- What each answer says, and how it is printed.
 use mathlib.Core.Bool.{Bool, true, false}
 use mathlib.Core.List.{List}
 use Prim.Native.Nat.{ℕ}
@@ -15,6 +15,6 @@ abbrev pub answered : Bool → Answer
 answered true = Yes
 answered false = No
 
-abbrev pub word : Answer → List ℕ
-word Yes = codes "yes"
-word No = codes "no"
+abbrev pub answer-text : Answer → List ℕ
+answer-text Yes = codes "yes"
+answer-text No = codes "no"

@@ -13,8 +13,8 @@ letter c = leb 97 c && leb c 122
 abbrev pub operators : List (List ℕ)
 operators = codes "not" ∷ (codes "next" ∷ (codes "always" ∷ (codes "eventually" ∷ (codes "and" ∷ (codes "or" ∷ (codes "implies" ∷ (codes "until" ∷ (codes "unless" ∷ []))))))))
 
-abbrev between : ℕ → ℕ → ℕ → Bool
-between least most n = leb least n && leb n most
+abbrev in-range : ℕ → ℕ → ℕ → Bool
+in-range least most n = leb least n && leb n most
 
 abbrev all : {X : Type 0} → (X → Bool) → List X → Bool
 all test [] = true
@@ -29,13 +29,14 @@ different [] = true
 different (w ∷ ws) = not (among ws w) && different ws
 
 abbrev lawful-word : List ℕ → Bool
-lawful-word w = between 1 32 (length w) && (all letter w && not (among operators w))
+lawful-word w = in-range 1 32 (length w) && (all letter w && not (among operators w))
 
-abbrev pub lawful-vocabulary : List (List ℕ) → Bool
-lawful-vocabulary words = between 1 16 (length words) && (all lawful-word words && different words)
+-- shut, so that searches do not open it; a kind shows it by computing, under `unfolding lawful-vocabulary`
+unfoldable pub lawful-vocabulary : List (List ℕ) → Bool
+lawful-vocabulary words = in-range 1 16 (length words) && (all lawful-word words && different words)
 
 -- the words in order, one space between neighbours
-abbrev pub spelled : List (List ℕ) → List ℕ
-spelled [] = []
-spelled (w ∷ []) = w
-spelled (w ∷ (v ∷ vs)) = w ++ (32 ∷ spelled (v ∷ vs))
+abbrev pub word-list : List (List ℕ) → List ℕ
+word-list [] = []
+word-list (w ∷ []) = w
+word-list (w ∷ (v ∷ vs)) = w ++ (32 ∷ word-list (v ∷ vs))

@@ -1,5 +1,5 @@
 ghost use mathlib.Core.Path.{_≡_};
-ghost use Rattle.states.specs.Answers.{answered, said, word};
+ghost use Rattle.states.specs.Answers.{answer-text, answered, said};
 
 // What a state answers when asked for an atom.
 #[derive(Clone, Copy, PartialEq, Eq, Debug)]
@@ -16,9 +16,9 @@ impl Answer {
         if fact { Answer::Yes } else { Answer::No }
     }
 
-    // The answer's word, as it is printed.
-    pub fn word(self) -> &'static str
-        ensures { λ r. ⌜ now r ≡ word self ⌝ }
+    // The answer as it is printed.
+    pub fn as_str(self) -> &'static str
+        ensures { λ r. ⌜ now r ≡ answer-text self ⌝ }
     {
         match self {
             Answer::Yes => "yes",

@@ -6,12 +6,13 @@ ghost use Rattle.std.specs.Results.{Cases};
 use refusals::Cause;
 use refusals::Refusal;
 
+// Apart, since definitions that name a struct with an invariant cannot be cited beside it.
 mod answers;
 
 pub use answers::HeapState;
 
 // What the controller noted of its heap: bytes free, the largest free block, the bytes wanted, and
-// what came of it. Every record there is is lawful: `new` is the only source.
+// what came of it. No record is unlawful: `new` is the only source.
 #[derive(Clone, Copy, PartialEq, Eq, Debug)]
 pub struct HeapRecord {
     free: u32,
@@ -38,12 +39,12 @@ impl HeapRecord {
             (λ h. (h .free ≡ free) × (h .largest ≡ largest) × (h .wanted ≡ wanted) × (h .outcome ≡ outcome))
             (λ e. (lawful-heap free largest wanted outcome ≡ false) × (number (e .cause) ≡ 9) × (e .place ≡ 0)) ⌝ }
     {
-        let bounded = free <= Self::MOST_BYTES
+        let in_range = free <= Self::MOST_BYTES
             && wanted <= Self::MOST_BYTES
             && outcome <= Self::REFUSED;
-        let block = largest <= free && (largest == 0) == (free == 0);
-        let wanting = wanted > 0 || outcome == Self::IDLE;
-        if bounded && block && wanting {
+        let block_lawful = largest <= free && (largest == 0) == (free == 0);
+        let outcome_lawful = wanted > 0 || outcome == Self::IDLE;
+        if in_range && block_lawful && outcome_lawful {
             Ok(HeapRecord {
                 free,
                 largest,

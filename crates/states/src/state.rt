@@ -4,7 +4,7 @@ ghost use mathlib.Core.List.{List};
 ghost use Prim.Native.Nat.{ℕ, _≤_};
 ghost use lib.ListN.{length};
 ghost use Rattle.states.specs.Answers.{answered};
-ghost use Rattle.states.specs.Vocabulary.{lawful-vocabulary, spelled};
+ghost use Rattle.states.specs.Vocabulary.{lawful-vocabulary, word-list};
 ghost use Rattle.states.specs.declared.answer.Answer.{Answer};
 use crate::answer::Answer;
 
@@ -25,9 +25,9 @@ pub trait State: Copy {
     // An atom past the vocabulary is answered no.
     ghost past: { (s : Self) (atom : ℕ) → length words ≤ atom → answers s atom ≡ answered false };
 
-    // The vocabulary as it stands in the constant.
+    // The constant: generic code knows its value only by this promise.
     fn word_list() -> &'static [u8]
-        ensures { λ r. ⌜ now r ≡ spelled words ⌝ };
+        ensures { λ r. ⌜ now r ≡ word-list words ⌝ };
 
     fn answer(&self, atom: usize) -> Answer
         ensures { λ r. ⌜ r ≡ answers (now (self .entry)) atom ⌝ };

@@ -5,6 +5,7 @@ ghost use Rattle.std.specs.Results.{Cases};
 use refusals::Cause;
 use refusals::Refusal;
 
+// Apart, since definitions that name a struct with an invariant cannot be cited beside it.
 mod answers;
 
 pub use answers::ValveState;

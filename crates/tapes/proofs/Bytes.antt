@@ -12,24 +12,10 @@ use Rattle.states.proofs.Records.{same-valve}
 use Rattle.states.specs.declared.valve.ValveRecord.{ValveRecord}
 use Rattle.std.proofs.shelf.Counted.{length-map-counting, getD-map-counting, map-counting-more, fill-by-all}
 use Rattle.std.proofs.shelf.Lists.{getD-set-same, getD-set-other, getD-take, length-take-le}
-use Rattle.std.proofs.shelf.Maps.{nth-getD, nth-past}
-use Rattle.std.proofs.shelf.Tests.{cases-lt}
-use Rattle.std.specs.declared.option.Option.the-variants.{Some, None}
-use Rattle.std.specs.shelf.Maps.{nth}
-use Rattle.tapes.specs.Valves.{Holds, Lawful-pumps, Unreadable, bits-at, pump-at, stored, valve-at, valves, written}
+use Rattle.tapes.specs.Valves.{Encodes, Lawful-pumps, Unreadable, bits-at, pump-at, valve-at, valves, written}
 
 pub length-valves : (n : ℕ) (bytes : List ℕ) → length (valves n bytes) ≡ n
 length-valves n bytes = length-map-counting (valve-at bytes) 0 n
-
-module _ (n k : ℕ) (bytes : List ℕ) where
-  pub nth-valves : k < n → nth (valves n bytes) k ≡ Some (valve-at bytes k)
-  nth-valves below =
-      let long : k < length (valves n bytes) = omega (arith, length-valves n bytes) in
-      nth-getD (valves n bytes) k (valve-at bytes k) long
-      ∙ ap Some (getD-map-counting (valve-at bytes) 0 n k k (valve-at bytes k) below (omega arith))
-
-  pub nth-valves-past : n ≤ k → nth (valves n bytes) k ≡ None
-  nth-valves-past past = nth-past (valves n bytes) k (omega (arith, length-valves n bytes))
 
 -- the first n records depend on the first 3 * n bytes alone
 module _ (n : ℕ) (xs ys : List ℕ) (agree : (j : ℕ) → j < 3 * n → getD xs j 0 ≡ getD ys j 0) where
@@ -45,43 +31,37 @@ module _ (n : ℕ) (xs ys : List ℕ) (agree : (j : ℕ) → j < 3 * n → getD 
       fill-by-all (valve-at ys) (valves n xs) n (valve-at xs 0) (length-valves n xs)
       (λ k below. getD-map-counting (valve-at xs) 0 n k k (valve-at xs 0) below (omega arith) ∙ valve-front k below)
 
-pub holds-valves : (bytes : List ℕ) → length bytes % 3 ≡ 0 → Lawful-pumps (length bytes / 3) bytes → Holds bytes (valves (length bytes / 3) bytes)
-holds-valves bytes whole lawful =
-    let n = length bytes / 3 in
-    record {
-      whole = omega (arith, length-valves n bytes);
-      each = λ k v found. elim (cases-lt k n) [
-        | inl below ↦
-            let is : v ≡ valve-at bytes k = let at = nth-valves n k bytes below in cc in
-            (ap (λ (w : ValveRecord). w .bits) is, ap (λ (w : ValveRecord). w .pump) is ∙ omega (arith, lawful k below))
-        | inr past ↦
-            let never : _≡_ {A = ℕ} 0 1 = let at = nth-valves-past n k bytes past in cc in
-            absurd (omega arith)
-      ];
-    }
+pub encodes-valves : (bytes : List ℕ) → length bytes % 3 ≡ 0 → Lawful-pumps (length bytes / 3) bytes → Encodes bytes (valves (length bytes / 3) bytes)
+encodes-valves bytes whole lawful = record { whole = omega (arith, length-valves n bytes); each = each }
+  where
+    n : ℕ
+    n = length bytes / 3
 
--- bytes that hold records hold no others, and are not refused
-module _ (bytes : List ℕ) (records : List ValveRecord) (held : Holds bytes records) where
-  held-at : (k : ℕ) (d : ValveRecord) → k < length records → (getD records k d .bits ≡ bits-at bytes k) × (getD records k d .pump ≡ pump-at bytes k)
-  held-at k d below = held .each k (getD records k d) (nth-getD records k d below)
+    each : (k : ℕ) (d : ValveRecord) → k < length (valves n bytes) → (getD (valves n bytes) k d .bits ≡ bits-at bytes k) × (getD (valves n bytes) k d .pump ≡ pump-at bytes k)
+    each k d below =
+        let there : k < n = omega (arith, length-valves n bytes) in
+        let is = getD-map-counting (valve-at bytes) 0 n k k d there (omega arith) in
+        (ap (λ (w : ValveRecord). w .bits) is, ap (λ (w : ValveRecord). w .pump) is ∙ omega (arith, lawful k there))
 
+-- bytes that encode records encode no others, and are not refused
+module _ (bytes : List ℕ) (records : List ValveRecord) (held : Encodes bytes records) where
   pub held-only : valves (length bytes / 3) bytes ≡ records
   held-only = sym (fill-by-all (valve-at bytes) records (length bytes / 3) (valve-at bytes 0) (omega (arith, held .whole)) each)
     where
       each : (k : ℕ) → k < length bytes / 3 → getD records k (valve-at bytes 0) ≡ valve-at bytes k
       each k below =
           let v = getD records k (valve-at bytes 0) in
-          let says = held-at k (valve-at bytes 0) (omega (arith, held .whole)) in
+          let says = held .each k (valve-at bytes 0) (omega (arith, held .whole)) in
           same-valve v (valve-at bytes k) (says .0) (omega (arith, says .1, v .lawful))
 
   pub held-readable : (e : Refusal) → Unreadable bytes e → ⊥
   held-readable e (inl cut) = cut .partial (omega (arith, held .whole))
   held-readable e (inr pump) =
       let v = getD records (e .place) (valve-at bytes 0) in
-      let says = held-at (e .place) (valve-at bytes 0) (omega (arith, held .whole, pump .within)) in
+      let says = held .each (e .place) (valve-at bytes 0) (omega (arith, held .whole, pump .within)) in
       omega (arith, says .1, v .lawful, pump .above)
 
--- the bytes of the first n records hold those records
+-- the bytes of the first n records encode those records
 module _ (n : ℕ) (bytes : List ℕ) (within : n ≤ length bytes / 3) where
   pub records-taken : length (take (3 * n) bytes) / 3 ≡ n
   records-taken = omega (arith, length-take-le (3 * n) bytes (omega arith))
@@ -91,11 +71,11 @@ module _ (n : ℕ) (bytes : List ℕ) (within : n ≤ length bytes / 3) where
       ap (λ m. valves m (take (3 * n) bytes)) records-taken
       ∙ valves-front n (take (3 * n) bytes) bytes (λ j below. getD-take (3 * n) bytes j 0 below)
 
-  pub holds-taken : ∥ Lawful-pumps n bytes ∥₁ → Holds (take (3 * n) bytes) (valves n bytes)
-  holds-taken pumps =
+  pub encodes-taken : ∥ Lawful-pumps n bytes ∥₁ → Encodes (take (3 * n) bytes) (valves n bytes)
+  encodes-taken pumps =
       let taken = take (3 * n) bytes in
       let whole : length taken % 3 ≡ 0 = omega (arith, length-take-le (3 * n) bytes (omega arith)) in
-      subst (Holds taken) valves-taken (holds-valves taken whole lawful)
+      subst (Encodes taken) valves-taken (encodes-valves taken whole lawful)
     where
       lawful : Lawful-pumps (length (take (3 * n) bytes) / 3) (take (3 * n) bytes)
       lawful k below =
@@ -107,6 +87,9 @@ module _ (n : ℕ) (bytes : List ℕ) (within : n ≤ length bytes / 3) where
 abbrev pub Kept : ℕ → List ℕ → Type 0
 Kept n bytes = (n ≤ length bytes / 3) × (∥ Lawful-pumps n bytes ∥₁ × Unit {0})
 
+pub kept-none : (bytes : List ℕ) → Kept 0 bytes
+kept-none bytes = (omega arith, (∣ (λ k below. absurd (omega arith)) ∣₁, tt))
+
 -- a byte written past the first n records leaves that
 pub kept-past : (n i x : ℕ) (bytes : List ℕ) → 3 * n ≤ i → Kept n bytes → Kept n (set bytes i x)
 kept-past n i x bytes past kept =
@@ -116,13 +99,6 @@ kept-past n i x bytes past kept =
     lawful pumps k below =
         let other : 3 * k + 2 ≢ i = omega arith in
         rw getD-set-other (pumps k below)
-
--- the three bytes as the code has them
-pub stored-is : (bytes : List ℕ) (n : ℕ) (v : ValveRecord) (bits pump : ℕ) (two : List ℕ) → bits ≡ v .bits → bits < 65536 → two ≡ (bits / 256 % 256) ∷ ((bits % 256) ∷ []) → pump ≡ v .pump → stored bytes n (getD two 0 0) (getD two 1 0) pump ≡ written bytes n v
-stored-is bytes n v bits pump two same fits split ran =
-    let high : getD two 0 0 ≡ v .bits / 256 = ap (λ (xs : List ℕ). getD xs 0 0) split ∙ omega arith in
-    let low : getD two 1 0 ≡ v .bits % 256 = ap (λ (xs : List ℕ). getD xs 1 0) split ∙ omega arith in
-    cc
 
 pub length-written : (bytes : List ℕ) (n : ℕ) (v : ValveRecord) → length (written bytes n v) ≡ length bytes
 length-written bytes n v = simp length-set

@@ -5,9 +5,13 @@ use denote.Ref.{now}
 use lib.ListN.{length, take}
 use Rattle.states.specs.declared.valve.ValveRecord.{ValveRecord}
 use Rattle.tapes.specs.Valves.{valves}
+use Rattle.tapes.specs.declared.cells.Cells.{Cells}
 use Rattle.tapes.specs.declared.log.Log.{Log}
 use Rattle.tapes.specs.declared.valve_log.ValveLog.{ValveLog}
 use Rattle.tapes.specs.declared.valve_tape.ValveTape.{ValveTape}
+
+abbrev pub cells-states : {S : Type 0} → Cells S → List S
+cells-states tape = now (tape .cells)
 
 abbrev pub log-states : {S : Type 0} → Log S → List S
 log-states log = take (log .used) (now (log .cells))

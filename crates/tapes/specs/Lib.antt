@@ -1,3 +1,4 @@
 pub mod Growing
 pub mod Lent
+pub mod Reading
 pub mod Valves

@@ -1,5 +1,5 @@
 ghost use mathlib.Core.Path.{_≡_};
-ghost use denote.Ref.{now};
+ghost use Rattle.tapes.specs.Lent.{cells-states};
 use crate::tape::Tape;
 use states::state::State;
 
@@ -12,7 +12,7 @@ pub struct Cells<'a, S> {
 impl<'a, S: State> Cells<'a, S> {
     // The tape of all the cells.
     pub fn new(cells: &'a [S]) -> Cells<'a, S>
-        ensures { λ r. ⌜ now (r .cells) ≡ now (cells .entry) ⌝ }
+        ensures { λ r. ⌜ cells-states r ≡ now (cells .entry) ⌝ }
     {
         Cells { cells }
     }
@@ -21,7 +21,7 @@ impl<'a, S: State> Cells<'a, S> {
 pub impl<'a, S: State> Tape for Cells<'a, S> as CellsTape {
     type Item = S;
 
-    ghost states = { λ t. now (t .cells) };
+    ghost states = { cells-states };
 
     fn len(&self) -> usize {
         self.cells.len()

@@ -2,6 +2,7 @@ ghost use Prim.Native.Nat.{_≤_};
 ghost use denote.Ref.{now};
 ghost use lib.ListN.{length};
 
+// Apart, since definitions that name a struct with an invariant cannot be cited beside it.
 mod calls;
 
 pub use calls::LogGrows;

@@ -2,7 +2,7 @@ ghost use mathlib.Core.Path.{_≡_};
 ghost use mathlib.Core.List.{List};
 ghost use Prim.Native.Nat.{ℕ};
 ghost use lib.ListN.{length};
-ghost use Rattle.std.specs.shelf.Maps.{nth};
+ghost use Rattle.tapes.specs.Reading.{Found};
 ghost use Rattle.tapes.specs.Growing.{Appends};
 use refusals::Refusal;
 use states::state::State;
@@ -18,14 +18,14 @@ pub trait Tape {
 
     // The state at a place, or nothing from the tape's end on.
     fn at(&self, place: usize) -> Option<Self::Item>
-        ensures { λ r. ⌜ r ≡ nth (states (now (self .entry))) place ⌝ };
+        ensures { λ r. ⌜ Found (states (now (self .entry))) place r ⌝ };
 }
 
 // A tape that grows at its end, up to a fixed capacity.
 pub trait GrowingTape: Tape {
     ghost capacity: { Self → ℕ };
 
-    // The state goes to the end of the list; a tape that is full stays as it is.
+    // The state goes to the end of the list; a full tape refuses it with its length, and stays as it is.
     fn append(&mut self, state: Self::Item) -> Result<(), Refusal>
         ensures kept { λ r. ⌜ capacity (now (self .exit)) ≡ capacity (now (self .entry)) ⌝ }
         ensures grown { λ r. ⌜ Appends (capacity (now (self .entry))) state (Self·Tape .states (now (self .entry))) (Self·Tape .states (now (self .exit))) r ⌝ };

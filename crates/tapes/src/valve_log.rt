@@ -3,6 +3,7 @@ ghost use denote.Ref.{now};
 ghost use lib.ListN.{length};
 ghost use Rattle.tapes.specs.Valves.{Lawful-pumps};
 
+// Apart, since definitions that name a struct with an invariant cannot be cited beside it.
 mod calls;
 
 pub use calls::ValveLogGrows;

@@ -15,7 +15,6 @@ pub struct Window<T: Tape> {
     below: T,
     start: usize,
     end: usize,
-    ghost forward: { start ≤ end },
 }
 
 impl<T: Tape> Window<T> {
@@ -38,7 +37,7 @@ impl<T: Tape> Window<T> {
     // The window over a part that `check` has found.
     pub fn new(below: T, start: usize, end: usize) -> Window<T>
         requires { ⌜ start ≤ end ⌝ ∗ ⌜ end ≤ length (T·Tape .states below) ⌝ }
-        ensures { λ r. ⌜ r .below ≡ below ⌝ ∗ ⌜ r .start ≡ start ⌝ ∗ ⌜ r .end ≡ end ⌝ }
+        ensures { λ r. ⌜ between (r .start) (r .end) (T·Tape .states (r .below)) ≡ between start end (T·Tape .states below) ⌝ }
     {
         Window { below, start, end }
     }
@@ -49,17 +48,16 @@ pub impl<T: Tape> Tape for Window<T> as WindowTape {
 
     ghost states = { λ w. between (w .start) (w .end) (T·Tape .states (w .below)) };
 
+    // The end is within the tape below, but no invariant can cite that tape's list: hence `min`.
     fn len(&self) -> usize {
         self.end.min(self.below.len()).saturating_sub(self.start)
     }
 
     fn at(&self, place: usize) -> Option<T::Item> {
-        if place >= self.end - self.start {
-            return None;
-        }
-        match self.below.at(self.start + place) {
-            Some(state) => Some(state),
-            None => None,
+        let at = self.start.saturating_add(place);
+        match self.below.at(at) {
+            Some(state) if at < self.end => Some(state),
+            _ => None,
         }
     }
 }

@@ -24,7 +24,7 @@ fn each_cause_has_its_number_and_part() -> Result<(), Fail> {
     ];
     for (cause, number, word) in listed {
         check_eq(cause.number(), number)?;
-        check_eq(cause.part().word(), word)?;
+        check_eq(cause.part().as_str(), word)?;
     }
     Ok(())
 }

@@ -1,6 +1,6 @@
 // A heap record's law on both sides of each of its limits, and the answers of its atoms.
+use crate::seen::refused;
 use refusals::Cause;
-use refusals::Refusal;
 use refusals::RefusalDebug;
 use refusals::RefusalPartialEq;
 use states::answer::Answer;
@@ -55,13 +55,9 @@ fn unlawful_records_are_refused() -> Result<(), Fail> {
         (1, 1, 1, 255),
     ];
     for (free, largest, wanted, outcome) in unlawful {
-        let expected = Refusal {
-            cause: Cause::UnlawfulRecord,
-            place: 0,
-        };
         check_eq(
             HeapRecord::new(free, largest, wanted, outcome),
-            Err(expected),
+            refused(Cause::UnlawfulRecord, 0),
         )?;
     }
     Ok(())
@@ -101,5 +97,6 @@ fn atoms_go_by_the_numbers() -> Result<(), Fail> {
 
 #[test]
 fn the_vocabulary_is_listed() -> Result<(), Fail> {
-    check(HeapRecord::word_list() == b"asked enough fits refused dispensed")
+    check(HeapRecord::VOCABULARY == b"asked enough fits refused dispensed")?;
+    check(HeapRecord::word_list() == HeapRecord::VOCABULARY)
 }

@@ -3,7 +3,7 @@ ghost use mathlib.Core.Path.{_≡_};
 ghost use Prim.Native.Nat.{_<_, _≤_};
 ghost use lib.ListN.{length, set};
 ghost use Rattle.tapes.specs.Valves.{written};
-ghost use Rattle.std.specs.declared.option.Option.the-variants.{Some};
+ghost use Rattle.std.specs.declared.option.Option.the-variants.{None, Some};
 use states::state::State;
 use states::valve::ValveRecord;
 use states::valve::ValveState;
@@ -36,7 +36,10 @@ pub fn note_valve(bytes: &mut [u8], state: ValveRecord)
 
 // It is read back from those bytes alone.
 pub fn note_and_read(bytes: &mut [u8], state: ValveRecord) -> Option<ValveRecord>
-    ensures { λ r. ⌜ (3 ≤ length (now (bytes .entry)) → r ≡ Some state) ⌝ }
+    ensures read { λ r. ⌜ (3 ≤ length (now (bytes .entry)) → r ≡ Some state) ⌝ }
+    ensures none { λ r. ⌜ (length (now (bytes .entry)) < 3 → r ≡ None) ⌝ }
+    ensures noted { λ _. ⌜ (3 ≤ length (now (bytes .entry)) → now (bytes .exit) ≡ written (now (bytes .entry)) 0 state) ⌝ }
+    ensures refused { λ _. ⌜ (length (now (bytes .entry)) < 3 → now (bytes .exit) ≡ now (bytes .entry)) ⌝ }
 {
     if bytes.len() < 3 {
         return None;

@@ -1,6 +1,6 @@
 // A valve record's law on both sides of its limit, and the answers of its atoms.
+use crate::seen::refused;
 use refusals::Cause;
-use refusals::Refusal;
 use refusals::RefusalDebug;
 use refusals::RefusalPartialEq;
 use states::answer::Answer;
@@ -20,12 +20,8 @@ fn the_pump_is_zero_or_one() -> Result<(), Fail> {
         check_eq(record.bits(), 0xabcd)?;
         check_eq(record.pump(), pump)?;
     }
-    let expected = Refusal {
-        cause: Cause::PumpTooLarge,
-        place: 0,
-    };
-    check_eq(ValveRecord::new(0, 2), Err(expected))?;
-    check_eq(ValveRecord::new(0, 255), Err(expected))
+    check_eq(ValveRecord::new(0, 2), refused(Cause::PumpTooLarge, 0))?;
+    check_eq(ValveRecord::new(0, 255), refused(Cause::PumpTooLarge, 0))
 }
 
 #[test]
@@ -49,5 +45,6 @@ fn atoms_go_by_pump_and_bits() -> Result<(), Fail> {
 
 #[test]
 fn the_vocabulary_is_listed() -> Result<(), Fail> {
-    check(ValveRecord::word_list() == b"pumping open")
+    check(ValveRecord::VOCABULARY == b"pumping open")?;
+    check(ValveRecord::word_list() == ValveRecord::VOCABULARY)
 }

@@ -1,4 +1,6 @@
 // Valve tapes over bytes, to read and to grow.
+use crate::seen::refused;
+use crate::seen::seen;
 use refusals::Cause;
 use refusals::Refusal;
 use refusals::RefusalDebug;
@@ -16,26 +18,24 @@ use tapes::valve_log::ValveLogTape;
 use tapes::valve_tape::ValveTape;
 use tapes::valve_tape::ValveTapeTape;
 
-// How many records the bytes hold, or why they are refused.
+// How many records the bytes encode, or why they are refused.
 fn records(bytes: &[u8]) -> Result<usize, Refusal> {
     Ok(ValveTape::new(bytes)?.len())
-}
-
-fn refused(cause: Cause, place: usize) -> Result<usize, Refusal> {
-    Err(Refusal { cause, place })
 }
 
 #[test]
 fn bytes_come_in_threes() -> Result<(), Fail> {
     let bytes = [0; 7];
-    check_eq(records(&bytes[0..0]), Ok(0))?;
-    check_eq(records(&bytes[0..1]), refused(Cause::PartialRecord, 1))?;
-    check_eq(records(&bytes[0..2]), refused(Cause::PartialRecord, 2))?;
-    check_eq(records(&bytes[0..3]), Ok(1))?;
-    check_eq(records(&bytes[0..4]), refused(Cause::PartialRecord, 4))?;
-    check_eq(records(&bytes[0..5]), refused(Cause::PartialRecord, 5))?;
-    check_eq(records(&bytes[0..6]), Ok(2))?;
-    check_eq(records(&bytes[0..7]), refused(Cause::PartialRecord, 7))
+    for (whole, count) in [(0, 0), (3, 1), (6, 2)] {
+        check_eq(records(&bytes[0..whole]), Ok(count))?;
+    }
+    for partial in [1, 2, 4, 5, 7] {
+        check_eq(
+            records(&bytes[0..partial]),
+            refused(Cause::PartialRecord, partial),
+        )?;
+    }
+    Ok(())
 }
 
 #[test]
@@ -57,9 +57,9 @@ fn the_first_pump_byte_above_one_is_refused() -> Result<(), Fail> {
 fn the_high_byte_comes_first() -> Result<(), Fail> {
     let bytes = [0x12, 0x34, 1, 0x00, 0xff, 0];
     let tape = ValveTape::new(&bytes)?;
-    check_eq(tape.at(0), Some(ValveRecord::new(0x1234, 1)?))?;
-    check_eq(tape.at(1), Some(ValveRecord::new(0x00ff, 0)?))?;
-    check_eq(tape.at(2), None)?;
+    let first = ValveRecord::new(0x1234, 1)?;
+    let second = ValveRecord::new(0x00ff, 0)?;
+    check_eq(seen(&tape), (2, [Some(first), Some(second), None]))?;
     check_eq(tape.at(usize::MAX), None)
 }
 
@@ -68,18 +68,21 @@ fn five_bytes_have_room_for_one_record() -> Result<(), Fail> {
     let record = ValveRecord::new(0x1234, 1)?;
     let mut bytes = [7; 5];
     let mut log = ValveLog::new(&mut bytes);
-    check_eq(log.len(), 0)?;
-    check_eq(log.at(0), None)?;
+    check_eq(seen(&log), (0, [None, None, None]))?;
     log.append(record)?;
-    let full = Refusal {
-        cause: Cause::TapeFull,
-        place: 1,
-    };
-    check_eq(log.append(record), Err(full))?;
-    check_eq(log.len(), 1)?;
-    check_eq(log.at(0), Some(record))?;
-    check_eq(log.at(1), None)?;
+    check_eq(log.append(record), refused(Cause::TapeFull, 1))?;
+    check_eq(seen(&log), (1, [Some(record), None, None]))?;
     check_eq(bytes, [0x12, 0x34, 1, 7, 7])
+}
+
+#[test]
+fn two_bytes_have_room_for_none() -> Result<(), Fail> {
+    let record = ValveRecord::new(0x1234, 1)?;
+    let mut bytes = [7; 2];
+    let mut log = ValveLog::new(&mut bytes);
+    check_eq(log.append(record), refused(Cause::TapeFull, 0))?;
+    check_eq(seen(&log), (0, [None, None, None]))?;
+    check_eq(bytes, [7, 7])
 }
 
 #[test]
@@ -90,9 +93,9 @@ fn what_was_appended_is_read_back() -> Result<(), Fail> {
     let mut log = ValveLog::new(&mut bytes);
     log.append(first)?;
     log.append(second)?;
-    check_eq(log.tape().at(1), Some(second))?;
-    let tape = ValveTape::new(&bytes)?;
-    check_eq(tape.len(), 2)?;
-    check_eq(tape.at(0), Some(first))?;
-    check_eq(tape.at(1), Some(second))
+    check_eq(seen(&log.tape()), (2, [Some(first), Some(second), None]))?;
+    check_eq(
+        seen(&ValveTape::new(&bytes)?),
+        (2, [Some(first), Some(second), None]),
+    )
 }

@@ -31,7 +31,7 @@ fn show_states<T: Tape>(rt: &impl Print, tape: &T) -> Result<(), AnyError> {
         if let Some(state) = tape.at(place) {
             print!(rt, "  {place}:")?;
             for (atom, word) in words.split(' ').enumerate() {
-                print!(rt, " {word} {}", state.answer(atom).word())?;
+                print!(rt, " {word} {}", state.answer(atom).as_str())?;
             }
             println!(rt)?;
         }
@@ -96,7 +96,7 @@ fn show_valves(rt: &impl Print) -> Result<(), AnyError> {
     Ok(())
 }
 
-// Records that no tape will hold.
+// A record of each kind that is refused.
 fn show_refused_records(rt: &impl Print) -> io::Result<()> {
     println!(rt, "unlawful records")?;
     if let Err(refusal) = HeapRecord::new(1_000, 1_001, 0, HeapRecord::IDLE) {

@@ -1,6 +1,5 @@
-ghost use mathlib.Core.Path.{refl};
 ghost use Rattle.states.specs.Atoms.{answers-by, no-past, words-of};
-ghost use Rattle.states.specs.Heap.{heap-atoms};
+ghost use Rattle.states.specs.Heap.{heap-atoms, heap-lawful};
 use crate::answer::Answer;
 use crate::heap::HeapRecord;
 use crate::state::State;
@@ -10,7 +9,7 @@ pub impl State for HeapRecord as HeapState {
 
     ghost words = { words-of heap-atoms };
 
-    ghost lawful = { refl };
+    ghost lawful = { heap-lawful };
 
     ghost answers = { answers-by heap-atoms };
 

@@ -1,6 +1,5 @@
-ghost use mathlib.Core.Path.{refl};
 ghost use Rattle.states.specs.Atoms.{answers-by, no-past, words-of};
-ghost use Rattle.states.specs.Valve.{valve-atoms};
+ghost use Rattle.states.specs.Valve.{valve-atoms, valve-lawful};
 use crate::answer::Answer;
 use crate::state::State;
 use crate::valve::ValveRecord;
@@ -10,7 +9,7 @@ pub impl State for ValveRecord as ValveState {
 
     ghost words = { words-of valve-atoms };
 
-    ghost lawful = { refl };
+    ghost lawful = { valve-lawful };
 
     ghost answers = { answers-by valve-atoms };
 

@@ -4,7 +4,7 @@ ghost use denote.Ref.{name};
 ghost use lib.ListN.{length, set};
 ghost use Rattle.std.specs.Results.{Cases};
 ghost use Rattle.tapes.specs.Growing.{Appends};
-ghost use Rattle.tapes.specs.Lent.{log-capacity, log-states};
+ghost use Rattle.tapes.specs.Lent.{cells-states, log-capacity, log-states};
 use crate::cells::Cells;
 use crate::cells::CellsTape;
 use crate::log::Log;
@@ -27,7 +27,7 @@ impl<'a, S: State> Log<'a, S> {
 
     // The tape to read over the cells in use: they are the states that were appended.
     pub fn tape(&self) -> Cells<'_, S>
-        ensures { λ r. ⌜ now (r .cells) ≡ log-states (now (self .entry)) ⌝ }
+        ensures { λ r. ⌜ cells-states r ≡ log-states (now (self .entry)) ⌝ }
     {
         Cells::new(&self.cells[0..self.used])
     }
@@ -50,7 +50,7 @@ pub impl<'a, S: State> Tape for Log<'a, S> as LogTape {
 pub impl<'a, S: State> GrowingTape for Log<'a, S> as LogGrows {
     ghost capacity = { log-capacity };
 
-    // It writes the cell after those in use, or none; the cells stay the same lender's.
+    // It writes the cell after those in use, or none, and still borrows the same cells.
     fn append(&mut self, state: S) -> Result<(), Refusal>
         ensures kept { λ r. ⌜ log-capacity (now (self .exit)) ≡ log-capacity (now (self .entry)) ⌝ }
         ensures grown { λ r. ⌜ Appends (log-capacity (now (self .entry))) state (log-states (now (self .entry))) (log-states (now (self .exit))) r ⌝ }

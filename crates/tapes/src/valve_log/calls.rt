@@ -6,7 +6,7 @@ ghost use lib.ListN.{length, take};
 ghost use Rattle.std.specs.Results.{Cases};
 ghost use Rattle.tapes.specs.Growing.{Appends};
 ghost use Rattle.tapes.specs.Lent.{valve-tape-states, valve-log-states, valve-log-capacity};
-ghost use Rattle.tapes.specs.Valves.{Holds, written};
+ghost use Rattle.tapes.specs.Valves.{Encodes, encoded, written};
 use crate::tape::GrowingTape;
 use crate::tape::Tape;
 use crate::valve_log::ValveLog;
@@ -29,11 +29,11 @@ impl<'a> ValveLog<'a> {
         ValveLog { bytes, used: 0 }
     }
 
-    // The tape to read over the bytes in use: they hold the records that were appended.
+    // The tape to read over the bytes in use: they encode the records that were appended.
     pub fn tape(&self) -> ValveTape<'_>
         ensures front { λ r. ⌜ now (r .bytes) ≡ take (3 * length (valve-log-states (now (self .entry)))) (now (now (self .entry) .bytes)) ⌝ }
         ensures same { λ r. ⌜ valve-tape-states r ≡ valve-log-states (now (self .entry)) ⌝ }
-        ensures held { λ r. ⌜ Holds (now (r .bytes)) (valve-log-states (now (self .entry))) ⌝ }
+        ensures held { λ r. ⌜ Encodes (now (r .bytes)) (valve-log-states (now (self .entry))) ⌝ }
     {
         ValveTape {
             bytes: &self.bytes[0..3 * self.used],
@@ -58,7 +58,7 @@ pub impl<'a> Tape for ValveLog<'a> as ValveLogTape {
 pub impl<'a> GrowingTape for ValveLog<'a> as ValveLogGrows {
     ghost capacity = { valve-log-capacity };
 
-    // It writes the three bytes after those in use, or none; the bytes stay the same lender's.
+    // It writes the three bytes after those in use, or none, and still borrows the same bytes.
     fn append(&mut self, state: ValveRecord) -> Result<(), Refusal>
         ensures kept { λ r. ⌜ valve-log-capacity (now (self .exit)) ≡ valve-log-capacity (now (self .entry)) ⌝ }
         ensures grown { λ r. ⌜ Appends (valve-log-capacity (now (self .entry))) state (valve-log-states (now (self .entry))) (valve-log-states (now (self .exit))) r ⌝ }
@@ -75,11 +75,19 @@ pub impl<'a> GrowingTape for ValveLog<'a> as ValveLogGrows {
             });
         }
         let at = 3 * place;
-        let [high, low] = state.bits().to_be_bytes();
+        let [high, low, pump] = encode(state);
         self.bytes[at] = high;
         self.bytes[at + 1] = low;
-        self.bytes[at + 2] = state.pump();
+        self.bytes[at + 2] = pump;
         self.used = place + 1;
         Ok(())
     }
+}
+
+// The record's three bytes.
+fn encode(state: ValveRecord) -> [u8; 3]
+    ensures { λ r. ⌜ r ≡ encoded state ⌝ }
+{
+    let [high, low] = state.bits().to_be_bytes();
+    [high, low, state.pump()]
 }

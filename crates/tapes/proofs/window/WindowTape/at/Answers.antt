@@ -1,22 +1,10 @@
-use mathlib.Core.Path.{_∙_, sym}
-use Prim.Native.Nat.{_-_}
-use native.Mathlib.Omega.{arith}
-use lib.ListN.{take, drop, length-take}
-use Rattle.std.proofs.shelf.Maps.{nth-past}
-use Rattle.tapes.proofs.Parts.{nth-part}
+use borrow.Author.Needs.{needs}
+use Rattle.std.proofs.shelf.Lists.{places}
 use Rattle.tapes.proofs.window.WindowTape.at.Needs as need
-
-pub returns-then-place-self : need.returns-then-place-self
-returns-then-place-self g c =
-    let w = c .args .self .now in
-    sym (nth-past (take (w .end - w .start) (drop (w .start) (g .T·Tape .states (w .below)))) (c .args .place) (simp length-take (omega arith)))
+use Rattle.tapes.proofs.window.WindowTape.at.Needs.{in-rest·by·in-Some·else-at-self, in-rest·by·in-None·}
 
 pub returns-in-Some : need.returns-in-Some
-returns-in-Some g c =
-    let w = c .args .self .now in
-    c .in-Some .ensures tt ∙ sym (nth-part (g .T·Tape .states (w .below)) (w .start) (w .end - w .start) (c .args .place) (c .if-place-self .left))
+returns-in-Some g c = search (needs, places)
 
-pub returns-in-None : need.returns-in-None
-returns-in-None g c =
-    let w = c .args .self .now in
-    c .in-None .ensures tt ∙ sym (nth-part (g .T·Tape .states (w .below)) (w .start) (w .end - w .start) (c .args .place) (c .if-place-self .left))
+pub returns-in-rest : need.returns-in-rest
+returns-in-rest g c = elim (c .in-rest .came) [ in-rest·by·in-Some·else-at-self w ↦ search (needs, places) | in-rest·by·in-None· w ↦ search (needs, places) ]

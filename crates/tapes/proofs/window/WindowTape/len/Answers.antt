@@ -1,6 +1,6 @@
-use native.Mathlib.Omega.{arith}
+use borrow.Author.Needs.{needs}
 use lib.ListN.{length-take, length-drop}
 use Rattle.tapes.proofs.window.WindowTape.len.Needs as need
 
 pub returns : need.returns
-returns g c = simp (length-take, length-drop) (omega arith)
+returns g c = search (needs, length-take, length-drop)
