@@ -63,7 +63,7 @@ module _ (bytes : List ℕ) (records : List ValveRecord) (held : Encodes bytes r
 
 -- the bytes of the first n records encode those records
 module _ (n : ℕ) (bytes : List ℕ) (within : n ≤ length bytes / 3) where
-  pub records-taken : length (take (3 * n) bytes) / 3 ≡ n
+  records-taken : length (take (3 * n) bytes) / 3 ≡ n
   records-taken = omega (arith, length-take-le (3 * n) bytes (omega arith))
 
   pub valves-taken : valves (length (take (3 * n) bytes) / 3) (take (3 * n) bytes) ≡ valves n bytes

@@ -28,7 +28,7 @@ impl<'a> ValveTape<'a> {
         ensures made { λ r. ⌜ Cases r
             (λ t. (now (t .bytes) ≡ now (bytes .entry)) × Encodes (now (bytes .entry)) (valve-tape-states t))
             (Unreadable (now (bytes .entry))) ⌝ }
-        ensures again { λ r. ⌜ ((records : List ValveRecord) → Encodes (now (bytes .entry)) records → Cases r
+        ensures read_back { λ r. ⌜ ((records : List ValveRecord) → Encodes (now (bytes .entry)) records → Cases r
             (λ t. valve-tape-states t ≡ records)
             (λ _. ⊥)) ⌝ }
     {

@@ -33,7 +33,7 @@ impl<'a> ValveLog<'a> {
     pub fn tape(&self) -> ValveTape<'_>
         ensures front { λ r. ⌜ now (r .bytes) ≡ take (3 * length (valve-log-states (now (self .entry)))) (now (now (self .entry) .bytes)) ⌝ }
         ensures same { λ r. ⌜ valve-tape-states r ≡ valve-log-states (now (self .entry)) ⌝ }
-        ensures held { λ r. ⌜ Encodes (now (r .bytes)) (valve-log-states (now (self .entry))) ⌝ }
+        ensures encodes { λ r. ⌜ Encodes (now (r .bytes)) (valve-log-states (now (self .entry))) ⌝ }
     {
         ValveTape {
             bytes: &self.bytes[0..3 * self.used],

@@ -27,10 +27,10 @@ first v (Some s) found = ap Some (found .1)
 pub returns-in-Ok : need.returns-in-Ok
 returns-in-Ok c =
     let after = c .note-valve .ensures .noted in
-    let again = c .in-Ok .ensures tt .again in
+    let read-back = c .in-Ok .ensures tt .read-back in
     record {
       read = λ long.
-          let one = again (c .args .state ∷ []) (encodes (c .args .bytes .now) (c .note-valve .last .bytes) (c .args .state) long (after long)) in
+          let one = read-back (c .args .state ∷ []) (encodes (c .args .bytes .now) (c .note-valve .last .bytes) (c .args .state) long (after long)) in
           first (c .args .state) (c .at .result) (subst (λ (xs : List ValveRecord). Found xs 0 (c .at .result)) one (c .at .ensures));
       none = search needs;
       noted = after;
@@ -41,7 +41,7 @@ pub returns-in-Err : need.returns-in-Err
 returns-in-Err c =
     let after = c .note-valve .ensures .noted in
     record {
-      read = λ long. absurd (c .in-Err .ensures tt .again (c .args .state ∷ []) (encodes (c .args .bytes .now) (c .note-valve .last .bytes) (c .args .state) long (after long)));
+      read = λ long. absurd (c .in-Err .ensures tt .read-back (c .args .state ∷ []) (encodes (c .args .bytes .now) (c .note-valve .last .bytes) (c .args .state) long (after long)));
       none = search needs;
       noted = after;
       refused = c .note-valve .ensures .refused;

@@ -18,7 +18,7 @@ returns-then-bytes-place-gt1 c =
       above = c .if-bytes-place-gt1 .taken;
       first = c .loop-place .inv;
     }) in
-    record { made = unreadable; again = λ records held. held-readable bytes records held e unreadable }
+    record { made = unreadable; read-back = λ records held. held-readable bytes records held e unreadable }
 
 pub returns : need.returns
 returns c = search (needs, encodes-valves, held-only)
