@@ -1,10 +1,12 @@
 -- The number and the part of each cause, how each part is printed, and a refusal.
+use mathlib.Core.Path.{_≡_}
 use Prim.Native.Nat.{ℕ}
 use mathlib.Core.List.{List, _++_}
 use lib.Chars.{codes}
 use Rattle.std.specs.Written.{decimal}
 use Rattle.refusals.specs.declared.Cause.{Cause}
 use Rattle.refusals.specs.declared.Cause.the-variants as cause
+use Rattle.refusals.specs.declared.Refusal.{Refusal}
 use Rattle.refusals.specs.declared.Part.{Part}
 use Rattle.refusals.specs.declared.Part.the-variants as part-of
 
@@ -52,6 +54,10 @@ part-text part-of.Window = codes "window"
 part-text part-of.Reader = codes "reader"
 part-text part-of.Watch = codes "watch"
 part-text part-of.Job = codes "job"
+
+-- a refusal by the cause of this number, at this place
+abbrev pub By : ℕ → ℕ → Refusal → Type 0
+By n place e = (number (e .cause) ≡ n) × (e .place ≡ place)
 
 abbrev pub line : ℕ → ℕ → Part → List ℕ
 line n place p = codes "refused " ++ (decimal n ++ (codes " at " ++ (decimal place ++ (codes " in " ++ part-text p))))

@@ -1,11 +1,11 @@
 -- The heap record's vocabulary, and what each of its atoms means.
-use mathlib.Core.Path.{_≡_, refl}
+use mathlib.Core.Path.{_≡_}
 use mathlib.Core.Bool.{Bool, true}
 use mathlib.Core.List.{List, [], _∷_}
 use lib.Chars.{codes}
 use lib.Dec.{eqb, leb, ltb}
 use Rattle.states.specs.Atoms.{Atom, words-of}
-use Rattle.states.specs.Vocabulary.{lawful-vocabulary}
+use Rattle.states.specs.Vocabulary.{lawful-is, lawful-vocabulary}
 use Rattle.states.specs.declared.heap.HeapRecord.{HeapRecord}
 
 abbrev pub asked : HeapRecord → Bool
@@ -32,5 +32,4 @@ heap-atoms =
     ∷ (record { word = codes "dispensed"; means = dispensed } ∷ []))))
 
 pub heap-lawful : lawful-vocabulary (words-of heap-atoms) ≡ true
-unfolding lawful-vocabulary
-heap-lawful = refl
+heap-lawful = lawful-is (words-of heap-atoms)

@@ -1,4 +1,5 @@
 -- Vocabularies: one to sixteen different words of 1 to 32 letters a to z, none of them an operator word.
+use mathlib.Core.Path.{_≡_, refl}
 use mathlib.Core.Bool.{Bool, true, false, not, _&&_, _||_}
 use mathlib.Core.List.{List, [], _∷_, _++_}
 use Prim.Native.Nat.{ℕ}
@@ -31,9 +32,17 @@ different (w ∷ ws) = not (among ws w) && different ws
 abbrev lawful-word : List ℕ → Bool
 lawful-word w = in-range 1 32 (length w) && (all letter w && not (among operators w))
 
--- shut, so that searches do not open it; a kind shows it by computing, under `unfolding lawful-vocabulary`
+abbrev pub passes : List (List ℕ) → Bool
+passes words = in-range 1 16 (length words) && (all lawful-word words && different words)
+
+-- the same test, shut, so that searches in generic code do not open it
 unfoldable pub lawful-vocabulary : List (List ℕ) → Bool
-lawful-vocabulary words = in-range 1 16 (length words) && (all lawful-word words && different words)
+lawful-vocabulary words = passes words
+
+-- so a kind shows its vocabulary lawful by computing the test
+pub lawful-is : (words : List (List ℕ)) → lawful-vocabulary words ≡ passes words
+unfolding lawful-vocabulary
+lawful-is words = refl
 
 -- the words in order, one space between neighbours
 abbrev pub word-list : List (List ℕ) → List ℕ

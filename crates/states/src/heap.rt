@@ -1,6 +1,6 @@
 ghost use mathlib.Core.Path.{_≡_};
 ghost use mathlib.Core.Bool.{false, true};
-ghost use Rattle.refusals.specs.Causes.{number};
+ghost use Rattle.refusals.specs.Causes.{By};
 ghost use Rattle.states.specs.HeapLaw.{lawful-heap};
 ghost use Rattle.std.specs.Results.{Cases};
 use refusals::Cause;
@@ -35,9 +35,7 @@ impl HeapRecord {
 
     // The record of these numbers, refused exactly if it would be unlawful.
     pub fn new(free: u32, largest: u32, wanted: u32, outcome: u8) -> Result<HeapRecord, Refusal>
-        ensures { λ r. ⌜ Cases r
-            (λ h. (h .free ≡ free) × (h .largest ≡ largest) × (h .wanted ≡ wanted) × (h .outcome ≡ outcome))
-            (λ e. (lawful-heap free largest wanted outcome ≡ false) × (number (e .cause) ≡ 9) × (e .place ≡ 0)) ⌝ }
+        ensures { λ r. ⌜ Cases r (λ h. (h .free ≡ free) × (h .largest ≡ largest) × (h .wanted ≡ wanted) × (h .outcome ≡ outcome)) (λ e. (lawful-heap free largest wanted outcome ≡ false) × By 9 0 e) ⌝ }
     {
         let in_range = free <= Self::MOST_BYTES
             && wanted <= Self::MOST_BYTES

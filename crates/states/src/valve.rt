@@ -1,6 +1,6 @@
 ghost use mathlib.Core.Path.{_≡_};
 ghost use Prim.Native.Nat.{_<_, _≤_};
-ghost use Rattle.refusals.specs.Causes.{number};
+ghost use Rattle.refusals.specs.Causes.{By};
 ghost use Rattle.std.specs.Results.{Cases};
 use refusals::Cause;
 use refusals::Refusal;
@@ -21,9 +21,7 @@ pub struct ValveRecord {
 impl ValveRecord {
     // The record of these numbers, refused exactly if the pump byte exceeds 1.
     pub fn new(bits: u16, pump: u8) -> Result<ValveRecord, Refusal>
-        ensures { λ r. ⌜ Cases r
-            (λ v. (v .bits ≡ bits) × (v .pump ≡ pump))
-            (λ e. (1 < pump) × (number (e .cause) ≡ 11) × (e .place ≡ 0)) ⌝ }
+        ensures { λ r. ⌜ Cases r (λ v. (v .bits ≡ bits) × (v .pump ≡ pump)) (λ e. (1 < pump) × By 11 0 e) ⌝ }
     {
         if pump <= 1 {
             Ok(ValveRecord { bits, pump })

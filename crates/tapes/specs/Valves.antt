@@ -5,7 +5,7 @@ use mathlib.Core.Logic.{_⊎_}
 use Prim.Native.Nat.{ℕ, _+_, _*_, _/_, _%_, _<_, _≤_, min}
 use native.Mathlib.Nat.{min-le-right}
 use lib.ListN.{length, getD, set}
-use Rattle.refusals.specs.Causes.{number}
+use Rattle.refusals.specs.Causes.{By}
 use Rattle.refusals.specs.declared.Refusal.{Refusal}
 use Rattle.states.specs.declared.valve.ValveRecord.{ValveRecord}
 use Rattle.std.specs.Iters.{counting}
@@ -46,12 +46,11 @@ written bytes k v = stored bytes k (encoded v)
 -- Why bytes are no valve tape: a record is cut off, or else the first pump byte above 1.
 pub record Partial (bytes : List ℕ) (e : Refusal) : Type 0 where
   pub partial : length bytes % 3 ≡ 0 → ⊥
-  pub cause : number (e .cause) ≡ 10
-  pub place : e .place ≡ length bytes
+  pub refused : By 10 (length bytes) e
 
 pub record Pump-above (bytes : List ℕ) (e : Refusal) : Type 0 where
   pub whole : length bytes % 3 ≡ 0
-  pub cause : number (e .cause) ≡ 11
+  pub refused : By 11 (e .place) e
   pub within : e .place < length bytes / 3
   pub above : 1 < pump-at bytes (e .place)
   pub first : Lawful-pumps (e .place) bytes

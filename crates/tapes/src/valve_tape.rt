@@ -25,12 +25,8 @@ impl<'a> ValveTape<'a> {
     // else with the number of the first record whose pump byte exceeds 1. Bytes that encode records
     // are read back as those.
     pub fn new(bytes: &'a [u8]) -> Result<ValveTape<'a>, Refusal>
-        ensures made { λ r. ⌜ Cases r
-            (λ t. (now (t .bytes) ≡ now (bytes .entry)) × Encodes (now (bytes .entry)) (valve-tape-states t))
-            (Unreadable (now (bytes .entry))) ⌝ }
-        ensures read_back { λ r. ⌜ ((records : List ValveRecord) → Encodes (now (bytes .entry)) records → Cases r
-            (λ t. valve-tape-states t ≡ records)
-            (λ _. ⊥)) ⌝ }
+        ensures made { λ r. ⌜ Cases r (λ t. (now (t .bytes) ≡ now (bytes .entry)) × Encodes (now (bytes .entry)) (valve-tape-states t)) (Unreadable (now (bytes .entry))) ⌝ }
+        ensures read_back { λ r. ⌜ ((records : List ValveRecord) → Encodes (now (bytes .entry)) records → Cases r (λ t. valve-tape-states t ≡ records) (λ _. ⊥)) ⌝ }
     {
         if bytes.len() % 3 != 0 {
             return Err(Refusal {

@@ -1,10 +1,7 @@
 ghost use mathlib.Core.Path.{_≡_};
-ghost use mathlib.Core.Logic.{_⊎_};
-ghost use Prim.Native.Nat.{_<_, _≤_};
 ghost use lib.ListN.{length};
-ghost use Rattle.refusals.specs.Causes.{number};
-ghost use Rattle.std.specs.Results.{Cases};
 ghost use Rattle.std.specs.shelf.Lists.{between};
+ghost use Rattle.tapes.specs.Windows.{Checked, Inside};
 use crate::tape::Tape;
 use refusals::Cause;
 use refusals::Refusal;
@@ -20,9 +17,7 @@ pub struct Window<T: Tape> {
 impl<T: Tape> Window<T> {
     // Whether the tape has such a part; refused with `start`.
     pub fn check(below: &T, start: usize, end: usize) -> Result<(), Refusal>
-        ensures { λ r. ⌜ Cases r
-            (λ _. (start ≤ end) × (end ≤ length (T·Tape .states (now (below .entry)))))
-            (λ e. ((end < start) ⊎ (length (T·Tape .states (now (below .entry))) < end)) × (number (e .cause) ≡ 12) × (e .place ≡ start)) ⌝ }
+        ensures { λ r. ⌜ Checked (length (T·Tape .states (now (below .entry)))) start end r ⌝ }
     {
         if start <= end && end <= below.len() {
             Ok(())
@@ -36,7 +31,7 @@ impl<T: Tape> Window<T> {
 
     // The window over a part that `check` has found.
     pub fn new(below: T, start: usize, end: usize) -> Window<T>
-        requires { ⌜ start ≤ end ⌝ ∗ ⌜ end ≤ length (T·Tape .states below) ⌝ }
+        requires { ⌜ Inside (length (T·Tape .states below)) start end ⌝ }
         ensures { λ r. ⌜ between (r .start) (r .end) (T·Tape .states (r .below)) ≡ between start end (T·Tape .states below) ⌝ }
     {
         Window { below, start, end }

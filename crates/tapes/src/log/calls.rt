@@ -2,8 +2,7 @@ ghost use mathlib.Core.List.{[]};
 ghost use mathlib.Core.Path.{_≡_};
 ghost use denote.Ref.{name};
 ghost use lib.ListN.{length, set};
-ghost use Rattle.std.specs.Results.{Cases};
-ghost use Rattle.tapes.specs.Growing.{Appends};
+ghost use Rattle.tapes.specs.Growing.{Appends, Stores};
 ghost use Rattle.tapes.specs.Lent.{cells-states, log-capacity, log-states};
 use crate::cells::Cells;
 use crate::cells::CellsTape;
@@ -54,9 +53,7 @@ pub impl<'a, S: State> GrowingTape for Log<'a, S> as LogGrows {
     fn append(&mut self, state: S) -> Result<(), Refusal>
         ensures kept { λ r. ⌜ log-capacity (now (self .exit)) ≡ log-capacity (now (self .entry)) ⌝ }
         ensures grown { λ r. ⌜ Appends (log-capacity (now (self .entry))) state (log-states (now (self .entry))) (log-states (now (self .exit))) r ⌝ }
-        ensures cells { λ r. ⌜ Cases r
-            (λ _. now (now (self .exit) .cells) ≡ set (now (now (self .entry) .cells)) (length (log-states (now (self .entry)))) state)
-            (λ _. now (now (self .exit) .cells) ≡ now (now (self .entry) .cells)) ⌝ }
+        ensures cells { λ r. ⌜ Stores (now (now (self .entry) .cells)) (set (now (now (self .entry) .cells)) (length (log-states (now (self .entry)))) state) (now (now (self .exit) .cells)) r ⌝ }
         ensures lender { λ r. ⌜ name (now (self .exit) .cells) ≡ name (now (self .entry) .cells) ⌝ }
     {
         let at = self.used;

@@ -3,8 +3,7 @@ ghost use mathlib.Core.Path.{_≡_};
 ghost use Prim.Native.Nat.{_*_, _/_};
 ghost use denote.Ref.{name};
 ghost use lib.ListN.{length, take};
-ghost use Rattle.std.specs.Results.{Cases};
-ghost use Rattle.tapes.specs.Growing.{Appends};
+ghost use Rattle.tapes.specs.Growing.{Appends, Stores};
 ghost use Rattle.tapes.specs.Lent.{valve-tape-states, valve-log-states, valve-log-capacity};
 ghost use Rattle.tapes.specs.Valves.{Encodes, encoded, written};
 use crate::tape::GrowingTape;
@@ -62,9 +61,7 @@ pub impl<'a> GrowingTape for ValveLog<'a> as ValveLogGrows {
     fn append(&mut self, state: ValveRecord) -> Result<(), Refusal>
         ensures kept { λ r. ⌜ valve-log-capacity (now (self .exit)) ≡ valve-log-capacity (now (self .entry)) ⌝ }
         ensures grown { λ r. ⌜ Appends (valve-log-capacity (now (self .entry))) state (valve-log-states (now (self .entry))) (valve-log-states (now (self .exit))) r ⌝ }
-        ensures bytes { λ r. ⌜ Cases r
-            (λ _. now (now (self .exit) .bytes) ≡ written (now (now (self .entry) .bytes)) (length (valve-log-states (now (self .entry)))) state)
-            (λ _. now (now (self .exit) .bytes) ≡ now (now (self .entry) .bytes)) ⌝ }
+        ensures bytes { λ r. ⌜ Stores (now (now (self .entry) .bytes)) (written (now (now (self .entry) .bytes)) (length (valve-log-states (now (self .entry)))) state) (now (now (self .exit) .bytes)) r ⌝ }
         ensures lender { λ r. ⌜ name (now (self .exit) .bytes) ≡ name (now (self .entry) .bytes) ⌝ }
     {
         let place = self.used;

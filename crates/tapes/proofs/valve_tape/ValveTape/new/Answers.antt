@@ -13,7 +13,7 @@ returns-then-bytes-place-gt1 c =
     let e : Refusal = record { cause = PumpTooLarge; place = c .loop-place .place } in
     let unreadable : Unreadable bytes e = inr (record {
       whole = c .if-bytes-ne0 .left;
-      cause = refl;
+      refused = (refl, refl);
       within = c .loop-place-test .taken;
       above = c .if-bytes-place-gt1 .taken;
       first = c .loop-place .inv;
