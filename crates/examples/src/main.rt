@@ -1,4 +1,6 @@
 // The judged examples: rules on short heap tapes, computed and printed.
+#![tactic(auto)]
+
 mod formula;
 mod judged;
 

@@ -1,5 +1,7 @@
 // Why something was refused, and where: the closed list of causes, the part that each concerns,
 // and the refusal that carries a cause to its place.
+#![tactic(auto)]
+
 ghost use Rattle.std.specs.Prelude.{◌≡◌, ◌≤◌, Some};
 ghost use Rattle.refusals.specs.Causes.{line, number, part, part_text};
 ghost use Rattle.refusals.specs.declared.Cause.{Cause};

@@ -1,12 +1,12 @@
 -- Which nodes each set has.
-use Rattle.std.proofs.Common.{◌≡◌, ℕ, suc, ◌+◌, ◌-◌, ◌*◌, ◌/◌, ◌%◌, ◌^◌, ◌<◌, ◌≤◌, Bool, true, false, cond, ◌&&◌, eqb, ltb, ◌⊎◌, sym, refl, ap, ◌∙◌, subst, inl, inr, mod-eq_of_lt, arith, pow-add}
+use Rattle.std.proofs.Common.{◌≡◌, ℕ, suc, ◌+◌, ◌-◌, ◌/◌, ◌%◌, ◌^◌, ◌<◌, Bool, true, false, cond, ◌&&◌, eqb, ltb, sym, refl, ap, ◌∙◌, inl, inr, mod-eq_of_lt, arith, pow-add}
 use native.Mathlib.Nat.{div-eq_of_lt, zero-div}
 use lib.Pow.{pow-lt, shl-shr}
 use Rattle.std.proofs.lemmas.Bool.{cases_lt}
 use Rattle.std.proofs.lemmas.Bool.Decides.{nat_tests}
 use Rattle.tallies.specs.Limits.{most_nodes}
 use Rattle.tallies.specs.SharedLaws.{intersected, power_sum_is, same_nodes, united}
-use Rattle.tallies.specs.Shared.{has, node_sets, of_bits}
+use Rattle.tallies.specs.Shared.{has, of_bits}
 use Rattle.tallies.specs.Statements.{SetsOfNodes}
 
 -- a number has no bit at a place whose power exceeds it

@@ -1,5 +1,5 @@
 -- By the verdict tally the joint worth tells whether there is an accepting run.
-use Rattle.std.proofs.Common.{◌≡◌, Bool, true, false, ◌&&◌, ◌||◌, List, sym, refl, ap, ◌∙◌, ap₂}
+use Rattle.std.proofs.Common.{◌≡◌, false, ◌&&◌, ◌||◌, List, sym, refl, ap, ◌∙◌, ap₂}
 use Rattle.temporal.specs.Formula.{Formula}
 use Rattle.temporal.specs.Reading.{Counts}
 use Rattle.temporal.specs.Suffices.{truths}

@@ -5,7 +5,7 @@ use mathlib.Core.HLevel.{is_prop→PathP}
 use Rattle.std.proofs.Math.Bridge.{le_prop}
 use Rattle.tallies.specs.Limits.{cap}
 use Rattle.tallies.specs.Measures.{MeasureLaws}
-use Rattle.tallies.specs.Overdue.{capped, counts, smaller}
+use Rattle.tallies.specs.Overdue.{counts, smaller}
 use Rattle.tallies.specs.declared.overdue.Count.{Count}
 
 pub same_count : (x y : Count) → x.number ≡ y.number → x ≡ y

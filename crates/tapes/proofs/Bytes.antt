@@ -1,5 +1,5 @@
 -- Valve records in bytes: which bytes a record depends on, and what writing one changes.
-use Rattle.std.proofs.Common.{◌≡◌, ℕ, ◌+◌, ◌*◌, ◌/◌, ◌%◌, ◌<◌, ◌≤◌, min, ◌≢◌, List, [], ◌∷◌, ◌++◌, map, length, get_or, take, set, sym, ap, ◌∙◌, subst, inl, inr, arith, length-set, below_more}
+use Rattle.std.proofs.Common.{◌≡◌, ℕ, ◌+◌, ◌*◌, ◌/◌, ◌%◌, ◌<◌, ◌≤◌, ◌≢◌, List, [], ◌∷◌, ◌++◌, length, get_or, take, set, sym, ap, ◌∙◌, subst, inl, inr, arith, length-set, below_more}
 use mathlib.Core.Logic.{∥∥₁_map, ∥∥₁_elim}
 use native.Mathlib.Bridge.{le_prop}
 use Rattle.refusals.specs.declared.Refusal.{Refusal}
@@ -79,16 +79,17 @@ module _ (n : ℕ) (bytes : List ℕ) (within : n ≤ length bytes / 3) where
           rw get_or-take (∥∥₁_elim pumps le_prop (λ p. p k there))
 
 -- what a log keeps of its bytes: room for its records, and their pump bytes lawful
-abbrev pub Kept : ℕ → List ℕ → Type 0
-Kept n bytes = (n ≤ length bytes / 3) × (∥ LawfulPumps n bytes ∥₁ × Unit {0})
+pub record Kept (n : ℕ) (bytes : List ℕ) : Type 0 where
+  pub within : n ≤ length bytes / 3
+  pub lawful : ∥ LawfulPumps n bytes ∥₁
 
 pub kept_none : (bytes : List ℕ) → Kept 0 bytes
-kept_none bytes = (omega arith, (∣ (λ k below. absurd (omega arith)) ∣₁, tt))
+kept_none bytes = record { within = omega arith; lawful = ∣ (λ k below. absurd (omega arith)) ∣₁ }
 
 -- a byte written past the first n records leaves that
 pub kept_past : (n i x : ℕ) (bytes : List ℕ) → 3 * n ≤ i → Kept n bytes → Kept n (set bytes i x)
 kept_past n i x bytes past kept =
-    (omega (arith, kept.0, length-set bytes i x), (∥∥₁_map kept.1.0 lawful, tt))
+    record { within = omega (arith, kept.within, length-set bytes i x); lawful = ∥∥₁_map kept.lawful lawful }
   where
     lawful : LawfulPumps n bytes → LawfulPumps n (set bytes i x)
     lawful pumps k below =
@@ -133,7 +134,7 @@ module _ (bytes : List ℕ) (n : ℕ) (v : ValveRecord) (room : n < length bytes
 
   pub kept_written : Kept n bytes → Kept (n + 1) (written bytes n v)
   kept_written kept =
-      (omega (arith, room, length-written bytes n v), (∥∥₁_map kept.1.0 lawful, tt))
+      record { within = omega (arith, room, length-written bytes n v); lawful = ∥∥₁_map kept.lawful lawful }
     where
       lawful : LawfulPumps n bytes → LawfulPumps (n + 1) (written bytes n v)
       lawful pumps =

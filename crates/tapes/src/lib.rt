@@ -1,4 +1,6 @@
 // Tapes: lists of states to read, to grow, and to look at through a window.
+#![tactic(auto)]
+
 pub mod cells;
 pub mod log;
 pub mod tape;

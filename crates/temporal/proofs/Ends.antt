@@ -1,13 +1,12 @@
 -- What the sets that suffice tell: the end, and that kept and broken never turn.
-use Rattle.std.proofs.Common.{◌≡◌, ℕ, Bool, true, false, cond, ◌&&◌, ◌||◌, ◌↔◌, List, [], ◌∷◌, ◌++◌, reverse, sym, refl, ap, ◌∙◌, subst, ap₂, true≢false}
+use Rattle.std.proofs.Common.{◌≡◌, ℕ, Bool, true, false, cond, ◌&&◌, ◌||◌, List, [], ◌∷◌, ◌++◌, reverse, sym, refl, ap, ◌∙◌, ap₂, true≢false}
 use mathlib.Core.Bool.{false≢true}
 use mathlib.Core.List.{reverse_aux}
-use Rattle.temporal.specs.Accepts.{Accepted}
 use Rattle.temporal.specs.Formula.{Formula}
 use Rattle.temporal.specs.Forms.{accepts}
 use Rattle.temporal.specs.Reading.{Counts, awaited, reading, waiting_part}
 use Rattle.temporal.specs.Statements.{EndIsVerdict, SetsGrow, SettledNeverTurns}
-use Rattle.temporal.specs.Suffices.{Broken, EndsInYes, Kept, Marks, Within, accepting_operators, earlier, everything, nothing, suffices, true_given, truths}
+use Rattle.temporal.specs.Suffices.{Broken, Kept, Marks, Within, accepting_operators, earlier, everything, nothing, suffices, truths}
 use Rattle.temporal.proofs.Related.{Keeps, related_here}
 use Rattle.temporal.proofs.Truth.{truth_tells}
 

@@ -1,5 +1,5 @@
 -- The list of runs, operator by operator: it computes.
-use Rattle.std.proofs.Common.{◌≡◌, List, [], ◌∷◌, refl, append-nil}
+use Rattle.std.proofs.Common.{refl, append-nil}
 use Rattle.temporal.specs.Statements.{RunsAreInOrder, WaitsAreInOrder}
 
 pub runs_in_order : RunsAreInOrder

@@ -4,7 +4,7 @@ use mathlib.Core.Bool.{false≢true}
 use Rattle.std.proofs.lemmas.List.{drop_more}
 use Rattle.temporal.specs.Formula.{Formula, atom, negation, unary, binary, nodes}
 use Rattle.temporal.specs.Holds.{Answers, Holds, Throughout, Somewhere, Reached}
-use Rattle.temporal.specs.Reading.{Counts, counted, here, reading, waiting_part}
+use Rattle.temporal.specs.Reading.{counted, here, reading, waiting_part}
 use Rattle.temporal.specs.Statements.{Meaning}
 use Rattle.temporal.specs.Suffices.{truths}
 use Rattle.temporal.specs.declared.operators.Unary.TheVariants.{Next, Always, Eventually}

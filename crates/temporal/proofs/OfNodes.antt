@@ -1,8 +1,8 @@
 -- Every visit of an accepting run is the visit of one of the rule's nodes.
-use Rattle.std.proofs.Common.{◌≡◌, ℕ, ◌+◌, ◌<◌, Bool, true, false, cond, not, List, [], ◌∷◌, ◌++◌, map, length, sym, refl, ap, subst, arith}
+use Rattle.std.proofs.Common.{◌≡◌, ℕ, ◌+◌, Bool, true, false, cond, not, List, [], ◌∷◌, ◌++◌, map, sym, refl, ap, subst, arith}
 use mathlib.Core.List.{map-append}
 use Rattle.std.specs.List.{ContainsAt as Has, AllByRecursion as All}
-use Rattle.std.proofs.ByRecursion.{All-append, all-has, All-weaker, has_append_left, has_append_right, has_push}
+use Rattle.std.proofs.ByRecursion.{All-append, all-has, All-weaker, has_append_left, has_append_right}
 use Rattle.temporal.specs.Formula.{Formula, atom, negation, unary, binary, nodes}
 use Rattle.temporal.specs.Forms.{accepts, binary_form, left_sign, unary_form}
 use Rattle.temporal.specs.Nodes.{Node, in_order, node, root, visit_of}
@@ -12,7 +12,6 @@ use Rattle.temporal.specs.Statements.{VisitsAreOfNodes}
 use Rattle.temporal.specs.Tallies.{Run, visit}
 use Rattle.temporal.specs.declared.operators.Form.{Form}
 use Rattle.temporal.specs.declared.operators.Form.TheVariants as form
-use Rattle.temporal.specs.declared.operators.Unary.{Unary}
 use Rattle.temporal.specs.declared.operators.Unary.TheVariants.{Next, Always, Eventually}
 use Rattle.temporal.specs.declared.visits.Visit.{Visit}
 use Rattle.temporal.proofs.Exact.{all_followed, exactly}

@@ -8,7 +8,7 @@ use Rattle.temporal.specs.Forms.{binary_form, binary_waits, left_sign, unary_for
 use Rattle.temporal.specs.Nodes.{Node, in_order, node, waiting_operators, waits}
 use Rattle.temporal.specs.Reading.{Counts, awaited, formed}
 use Rattle.temporal.specs.Statements.{OwnOperatorsDecide}
-use Rattle.temporal.specs.Suffices.{Marks, earlier, suffices, true_given, truths}
+use Rattle.temporal.specs.Suffices.{Marks, earlier, true_given, truths}
 use Rattle.temporal.specs.declared.operators.Binary.{Binary}
 use Rattle.temporal.specs.declared.operators.Binary.TheVariants.{And, Or, Implies, Until, Unless}
 use Rattle.temporal.specs.declared.operators.Form.{Form}

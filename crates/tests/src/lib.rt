@@ -1,5 +1,7 @@
 // Examples and limits of refusals, states and tapes, run as tests; the limits of a vocabulary; and
 // callers whose proofs show that the tapes' promises tell what the lent memory holds.
+#![tactic(auto)]
+
 #[cfg(test)]
 mod causes;
 #[cfg(test)]

@@ -1,5 +1,7 @@
 // A tour of the parts at work: a heap tape grows until it is full, a window looks at part of it, and
 // valve records go into bytes and come back.
+#![tactic(auto)]
+
 use refusals::Refusal;
 use states::heap::HeapRecord;
 use states::state::State;

@@ -10,7 +10,7 @@ encodes : (bytes after : List ℕ) (v : ValveRecord) → 3 ≤ length bytes → 
 encodes bytes after v long is =
     let room : 0 < length bytes / 3 = omega arith in
     let kept = kept_written bytes 0 v room (kept_none bytes) in
-    let there = subst (Encodes (take 3 (written bytes 0 v))) (valves_written bytes 0 v room) (encodes_taken 1 (written bytes 0 v) kept.0 kept.1.0) in
+    let there = subst (Encodes (take 3 (written bytes 0 v))) (valves_written bytes 0 v room) (encodes_taken 1 (written bytes 0 v) kept.within kept.lawful) in
     subst (λ (xs : List ℕ). Encodes (take 3 xs) (v ∷ [])) (sym is) there
 
 first : (v : ValveRecord) (r : Option ValveRecord) → Found (v ∷ []) 0 r → r ≡ Some v

@@ -1,6 +1,5 @@
-use Rattle.std.proofs.Common.{rules}
 use Rattle.tapes.proofs.Bytes.{kept_none}
 use Rattle.tapes.proofs.valve_log.ValveLog.new.Goals as goal
 
-pub invariant-of-result : goal.invariant-of-result
-invariant-of-result c = search (rules, kept_none)
+pub invariant_of-result : goal.invariant_of-result
+invariant_of-result c = let kept = kept_none c.args.bytes.now in record { within = kept.within; lawful = kept.lawful }
