@@ -1,5 +1,5 @@
 -- Valve records in bytes: which bytes a record depends on, and what writing one changes.
-use Rattle.std.proofs.Common.{◌≡◌, ℕ, ◌+◌, ◌*◌, ◌/◌, ◌%◌, ◌<◌, ◌≤◌, ◌≢◌, List, [], ◌∷◌, ◌++◌, length, get_or, take, set, sym, ap, ◌∙◌, subst, inl, inr, arith, length-set, below_more}
+use Rattle.std.proofs.Common.{◌≡◌, ℕ, ◌+◌, ◌*◌, ◌/◌, ◌%◌, ◌<◌, ◌≤◌, ◌≢◌, List, [], ◌∷◌, ◌++◌, length, get_or, take, set, sym, refl, ap, ◌∙◌, subst, inl, inr, arith, length-set, below_more}
 use mathlib.Core.Logic.{∥∥₁_map, ∥∥₁_elim}
 use native.Mathlib.Bridge.{le_prop}
 use Rattle.refusals.specs.declared.Refusal.{Refusal}
@@ -83,8 +83,11 @@ pub record Kept (n : ℕ) (bytes : List ℕ) : Type 0 where
   pub within : n ≤ length bytes / 3
   pub lawful : ∥ LawfulPumps n bytes ∥₁
 
+pub no_pumps : (n : ℕ) (bytes : List ℕ) → n ≡ 0 → ∥ LawfulPumps n bytes ∥₁
+no_pumps n bytes none = ∣ (λ k below. absurd (omega arith)) ∣₁
+
 pub kept_none : (bytes : List ℕ) → Kept 0 bytes
-kept_none bytes = record { within = omega arith; lawful = ∣ (λ k below. absurd (omega arith)) ∣₁ }
+kept_none bytes = record { within = omega arith; lawful = no_pumps 0 bytes refl }
 
 -- a byte written past the first n records leaves that
 pub kept_past : (n i x : ℕ) (bytes : List ℕ) → 3 * n ≤ i → Kept n bytes → Kept n (set bytes i x)

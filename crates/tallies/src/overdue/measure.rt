@@ -38,10 +38,7 @@ impl Measure for Count {
     }
 
     fn weight(visit: Visit) -> Count {
-        if visit.accepting {
-            capped(0)
-        } else {
-            capped(1)
-        }
+        let number = if visit.accepting { 0 } else { 1 };
+        capped(number)
     }
 }

@@ -1,5 +1,6 @@
-use Rattle.tapes.proofs.Bytes.{kept_none}
+use Rattle.std.proofs.Common.{arith}
+use Rattle.tapes.proofs.Bytes.{no_pumps}
 use Rattle.tapes.proofs.valve_log.ValveLog.new.Goals as goal
 
-pub invariant_of-result : goal.invariant_of-result
-invariant_of-result c = let kept = kept_none c.args.bytes.now in record { within = kept.within; lawful = kept.lawful }
+pub invariant_of-result-clause-lawful : goal.invariant_of-result-clause-lawful
+invariant_of-result-clause-lawful c = no_pumps _ _ (omega arith)
