@@ -89,6 +89,6 @@ fn atoms_go_by_the_numbers(rt: HostRuntime) -> Result<(), Fail> {
 
 #[test]
 fn the_vocabulary_is_listed(rt: HostRuntime) {
-    assert!(rt; HeapRecord::VOCABULARY == b"asked enough fits refused dispensed");
+    assert!(rt; HeapRecord::VOCABULARY == b"asked enough fits refused dispensed".as_slice());
     assert!(rt; HeapRecord::word_list() == HeapRecord::VOCABULARY);
 }

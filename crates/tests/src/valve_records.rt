@@ -39,6 +39,6 @@ fn atoms_go_by_pump_and_bits(rt: HostRuntime) -> Result<(), Fail> {
 
 #[test]
 fn the_vocabulary_is_listed(rt: HostRuntime) {
-    assert!(rt; ValveRecord::VOCABULARY == b"pumping open");
+    assert!(rt; ValveRecord::VOCABULARY == b"pumping open".as_slice());
     assert!(rt; ValveRecord::word_list() == ValveRecord::VOCABULARY);
 }
