@@ -8,7 +8,7 @@ use native.Mathlib.Omega.{arith}
 use lib.Dec.{eqb, ltb}
 use Rattle.std.specs.declared.option.Option.{Option}
 use Rattle.std.specs.declared.option.Option.TheVariants.{Some, None}
-use Rattle.std.specs.List.{ContainsAt as Has, AllByRecursion as All}
+use Rattle.std.specs.List.{ContainsAt, AllByRecursion}
 use Rattle.std.proofs.ByRecursion.{all-has, all_has_itself, All-weaker, has_get_or}
 use Rattle.std.proofs.lemmas.Bool.Decides.{nat_tests}
 use Rattle.temporal.specs.Formula.{Formula}
@@ -41,8 +41,8 @@ visited_has (v ∷ run) k small =
 
 -- what a worth says of a list of runs
 abbrev Common : List Run → Option NodeSet → Type 0
-Common rs None = (run : Run) → Has rs run → ⊥
-Common rs (Some x) = ((run : Run) × Has rs run) × ((k : ℕ) → k < most_nodes → has x k ≡ true ↔ All (λ run. visits run k ≡ true) rs)
+Common rs None = (run : Run) → ContainsAt rs run → ⊥
+Common rs (Some x) = ((run : Run) × ContainsAt rs run) × ((k : ℕ) → k < most_nodes → has x k ≡ true ↔ AllByRecursion (λ run. visits run k ≡ true) rs)
 
 and_true : (x y : Bool) → x && y ≡ true ↔ ((x ≡ true) × (y ≡ true))
 and_true true y = (λ e. (refl, e), λ p. p.1)

@@ -1,6 +1,6 @@
 -- Overdue is the least number of rejecting visits that an accepting run has, capped.
 use Rattle.std.proofs.Common.{◌≡◌, ℕ, ◌+◌, ◌≤◌, min, cond, List, [], ◌∷◌, Some, None, Option, sym, refl, ap, ◌∙◌, subst, inl, inr, arith}
-use Rattle.std.specs.List.{ContainsAt as Has, AllByRecursion as All}
+use Rattle.std.specs.List.{ContainsAt, AllByRecursion}
 use Rattle.std.proofs.ByRecursion.{all-has, all_has_itself, All-weaker, has_append_right, has_get_or}
 use Rattle.std.proofs.lemmas.Bool.{cases_lt}
 use Rattle.temporal.specs.Formula.{Formula}
@@ -25,8 +25,8 @@ run_worth (v ∷ run) = ap (both counts (overdues.weighs v)) (run_worth run) ∙
 
 -- what a worth says of a list of runs
 abbrev Least : List Run → Option Count → Type 0
-Least rs None = (run : Run) → Has rs run → ⊥
-Least rs (Some x) = All (λ run. x.number ≤ min (rejecting run) cap) rs × ((run : Run) × Has rs run × (x.number ≡ min (rejecting run) cap))
+Least rs None = (run : Run) → ContainsAt rs run → ⊥
+Least rs (Some x) = AllByRecursion (λ run. x.number ≤ min (rejecting run) cap) rs × ((run : Run) × ContainsAt rs run × (x.number ≡ min (rejecting run) cap))
 
 least_more : (run : Run) (rs : List Run) (o : Option Count) → Least rs o → Least (run ∷ rs) (either counts (Some (capped (rejecting run))) o)
 least_more run rs None none =
@@ -34,7 +34,7 @@ least_more run rs None none =
 least_more run rs (Some y) (least, (other, h, is)) =
     let x = smaller (capped (rejecting run)) y in
     let number : x.number ≡ min (min (rejecting run) cap) y.number = smaller_number (capped (rejecting run)) y in
-    let all : All (λ r. x.number ≤ min (rejecting r) cap) (run ∷ rs) = (omega (arith, number), All-weaker _ _ (λ r le. omega (arith, number)) rs least) in
+    let all : AllByRecursion (λ r. x.number ≤ min (rejecting r) cap) (run ∷ rs) = (omega (arith, number), All-weaker _ _ (λ r le. omega (arith, number)) rs least) in
     elim (cases_lt (min (rejecting run) cap) y.number) [
       | inl lt ↦ (all, (run, has_get_or (run ∷ rs) 0 run (omega arith), omega (arith, number)))
       | inr le ↦ (all, (other, has_append_right (run ∷ []) rs other h, omega (arith, number)))

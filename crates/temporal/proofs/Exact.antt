@@ -7,7 +7,7 @@ use mathlib.Core.List.Memᴰ.{head as in_head}
 use mathlib.Core.List.Memᴰ.{map as in_map}
 use mathlib.Core.List.Memᴰ.{tail as in_Tail}
 use mathlib.Core.List.{Memᴰ as In}
-use Rattle.std.specs.List.{ContainsAt as Has, AllByRecursion as All}
+use Rattle.std.specs.List.{ContainsAt, AllByRecursion}
 use Rattle.std.proofs.ByRecursion.{All-append, All-map, All-weaker, all-has}
 use Rattle.temporal.specs.Accepts.{Alone, alone, Onward, onward, Formed, and, or_left, or_right, next, always, eventually_later, eventually_now, until_now, until_later, release_later, release_now, Accepts, AcceptsHere, AcceptsFrom, Waits}
 use Rattle.temporal.specs.Formula.{Formula, atom, negation, unary, binary, nodes}
@@ -22,10 +22,10 @@ use Rattle.temporal.specs.declared.visits.Visit.{Visit}
 
 -- what holds of the runs of two lists joined, and of each run of one followed by each run of the other
 module _ {P Q : Run → Type 0} (R : Run → Type 0) where
-  all_joined : ((x : Run) → P x → R x) → ((y : Run) → Q y → R y) → (xs ys : List Run) → All P xs → All Q ys → All R (xs ++ ys)
+  all_joined : ((x : Run) → P x → R x) → ((y : Run) → Q y → R y) → (xs ys : List Run) → AllByRecursion P xs → AllByRecursion Q ys → AllByRecursion R (xs ++ ys)
   all_joined f g xs ys ps qs = All-append R xs ys (All-weaker P R f xs ps) (All-weaker Q R g ys qs)
 
-  pub all_followed : ((x y : Run) → P x → Q y → R (x ++ y)) → (xs ys : List Run) → All P xs → All Q ys → All R (followed xs ys)
+  pub all_followed : ((x y : Run) → P x → Q y → R (x ++ y)) → (xs ys : List Run) → AllByRecursion P xs → AllByRecursion Q ys → AllByRecursion R (followed xs ys)
   all_followed make [] ys ps qs = tt
   all_followed make (x ∷ xs) ys ps qs =
       All-append R (map (λ y. x ++ y) ys) (followed xs ys)
@@ -37,18 +37,18 @@ in_followed : {x y : Run} {xs ys : List Run} → In x xs → In y ys → In (x +
 in_followed {y = y} {ys = ys} (in_head {x = z} {xs = zs} e) q = in-cast (ap (λ v. v ++ y) e) (in_left (followed zs ys) (in_map (λ v. z ++ v) q))
 in_followed {ys = ys} (in_Tail {x = z} p) q = in_right (map (λ v. z ++ v) ys) (in_followed p q)
 
-has : {x : Run} {xs : List Run} → In x xs → Has xs x
+has : {x : Run} {xs : List Run} → In x xs → ContainsAt xs x
 has (in_head e) = (0, omega arith, λ d. sym e)
 has (in_Tail p) = let h = has p in (suc h.0, omega arith, h.2)
 
 -- a list has exactly the runs of a relation
 record Exact (P : Run → Type 0) (rs : List Run) : Type 0 where
-  sound : All P rs
+  sound : AllByRecursion P rs
   complete : {r : Run} → P r → In r rs
 
 -- form by form, and way by way
 module _ {W X Y : Run → Type 0} {ws xs ys : List Run} (ew : Exact W ws) (ex : Exact X xs) (ey : Exact Y ys) where
-  sound_formed : (o : Form) → All (Formed W X Y o) (formed run_lists o ws xs ys)
+  sound_formed : (o : Form) → AllByRecursion (Formed W X Y o) (formed run_lists o ws xs ys)
   sound_formed form.And = all_followed _ (λ x y p q. and p q) xs ys ex.sound ey.sound
   sound_formed form.Or = all_joined _ (λ x p. or_left p) (λ y q. or_right q) xs ys ex.sound ey.sound
   sound_formed form.Next = All-weaker _ _ (λ w p. next p) ws ew.sound
@@ -76,7 +76,7 @@ module _ {W X Y : Run → Type 0} {ws xs ys : List Run} (ew : Exact W ws) (ex : 
   exact_formed o = record { sound = sound_formed o; complete = complete_formed }
 
 -- a visit alone, if a test says so
-sound_alone : (k : ℕ) (test : Bool) → All (Alone k test) (cond test ((visit k true ∷ []) ∷ []) [])
+sound_alone : (k : ℕ) (test : Bool) → AllByRecursion (Alone k test) (cond test ((visit k true ∷ []) ∷ []) [])
 sound_alone k true = (alone refl, tt)
 sound_alone k false = tt
 
@@ -114,5 +114,5 @@ exact : (tape : List Counts) (n : Bool) (b : ℕ) (f : Formula) → Exact (Accep
 exact [] n b f = record { sound = tt; complete = λ p. absurd p }
 exact (s ∷ later) n b f = exact_here (exact_waiting (exact later) later) s n b f
 
-pub exactly : (tape : List Counts) (f : Formula) (run : Run) → Has (runs tape f) run ↔ Accepts tape f run
+pub exactly : (tape : List Counts) (f : Formula) (run : Run) → ContainsAt (runs tape f) run ↔ Accepts tape f run
 exactly tape f run = (all-has _ (runs tape f) run (exact tape false 0 f).sound, λ p. has ((exact tape false 0 f).complete p))

@@ -1,7 +1,7 @@
 -- Every visit of an accepting run is the visit of one of the rule's nodes.
 use Rattle.std.proofs.Common.{◌≡◌, ℕ, ◌+◌, Bool, true, false, cond, not, List, [], ◌∷◌, ◌++◌, map, sym, refl, ap, subst, arith}
 use mathlib.Core.List.{map-append}
-use Rattle.std.specs.List.{ContainsAt as Has, AllByRecursion as All}
+use Rattle.std.specs.List.{ContainsAt, AllByRecursion}
 use Rattle.std.proofs.ByRecursion.{All-append, all-has, All-weaker, has_append_left, has_append_right}
 use Rattle.temporal.specs.Formula.{Formula, atom, negation, unary, binary, nodes}
 use Rattle.temporal.specs.Forms.{accepts, binary_form, left_sign, unary_form}
@@ -22,25 +22,25 @@ visits n b f = map visit_of (in_order n b f)
 
 -- runs whose visits are all of a formula's nodes
 abbrev Of : Bool → ℕ → Formula → List Run → Type 0
-Of n b f rs = All (All (Has (visits n b f))) rs
+Of n b f rs = AllByRecursion (AllByRecursion (ContainsAt (visits n b f))) rs
 
 abbrev Inside : List Visit → List Visit → Type 0
-Inside xs ys = (v : Visit) → Has xs v → Has ys v
+Inside xs ys = (v : Visit) → ContainsAt xs v → ContainsAt ys v
 
-wider : (xs ys : List Visit) → Inside xs ys → (rs : List Run) → All (All (Has xs)) rs → All (All (Has ys)) rs
-wider xs ys i rs = All-weaker (All (Has xs)) (All (Has ys)) (λ run. All-weaker (Has xs) (Has ys) i run) rs
+wider : (xs ys : List Visit) → Inside xs ys → (rs : List Run) → AllByRecursion (AllByRecursion (ContainsAt xs)) rs → AllByRecursion (AllByRecursion (ContainsAt ys)) rs
+wider xs ys i rs = All-weaker (AllByRecursion (ContainsAt xs)) (AllByRecursion (ContainsAt ys)) (λ run. All-weaker (ContainsAt xs) (ContainsAt ys) i run) rs
 
 -- the nodes of an operand are nodes of its formula, and so is the operator's own
 inside_left : (xs ys : List Node) → Inside (map visit_of xs) (map visit_of (xs ++ ys))
-inside_left xs ys v h = subst (λ vs. Has vs v) (sym (map-append visit_of xs ys)) (has_append_left (map visit_of xs) (map visit_of ys) v h)
+inside_left xs ys v h = subst (λ vs. ContainsAt vs v) (sym (map-append visit_of xs ys)) (has_append_left (map visit_of xs) (map visit_of ys) v h)
 
 inside_right : (xs ys : List Node) → Inside (map visit_of ys) (map visit_of (xs ++ ys))
-inside_right xs ys v h = subst (λ vs. Has vs v) (sym (map-append visit_of xs ys)) (has_append_right (map visit_of xs) (map visit_of ys) v h)
+inside_right xs ys v h = subst (λ vs. ContainsAt vs v) (sym (map-append visit_of xs ys)) (has_append_right (map visit_of xs) (map visit_of ys) v h)
 
-own : (xs : List Node) (x : Node) → Has (map visit_of (xs ++ (x ∷ []))) (visit_of x)
+own : (xs : List Node) (x : Node) → ContainsAt (map visit_of (xs ++ (x ∷ []))) (visit_of x)
 own xs x = inside_right xs (x ∷ []) (visit_of x) (0, omega arith, λ d. refl)
 
-own_visit : (n : Bool) (b : ℕ) (f : Formula) → Has (visits n b f) (visit (root b f) (accepts n f))
+own_visit : (n : Bool) (b : ℕ) (f : Formula) → ContainsAt (visits n b f) (visit (root b f) (accepts n f))
 own_visit n b (atom a) = (0, omega arith, λ d. refl)
 own_visit n b (negation f) = own_visit (not n) b f
 own_visit n b (unary o f) = own (in_order n b f) (node n b (unary o f))
@@ -55,11 +55,11 @@ awaited_inside n b (unary Eventually f) v h = h
 awaited_inside n b (binary o f g) v h = h
 
 -- a form makes runs of no other visits
-of_both : (P : Visit → Type 0) (xs ys : List Run) → All (All P) xs → All (All P) ys → All (All P) (followed xs ys)
-of_both P xs ys = all_followed (All P) (λ x y p q. All-append P x y p q) xs ys
+of_both : (P : Visit → Type 0) (xs ys : List Run) → AllByRecursion (AllByRecursion P) xs → AllByRecursion (AllByRecursion P) ys → AllByRecursion (AllByRecursion P) (followed xs ys)
+of_both P xs ys = all_followed (AllByRecursion P) (λ x y p q. All-append P x y p q) xs ys
 
-module _ (P : Visit → Type 0) (ws xs ys : List Run) (pw : All (All P) ws) (px : All (All P) xs) (py : All (All P) ys) where
-  of_formed : (o : Form) → All (All P) (formed run_lists o ws xs ys)
+module _ (P : Visit → Type 0) (ws xs ys : List Run) (pw : AllByRecursion (AllByRecursion P) ws) (px : AllByRecursion (AllByRecursion P) xs) (py : AllByRecursion (AllByRecursion P) ys) where
+  of_formed : (o : Form) → AllByRecursion (AllByRecursion P) (formed run_lists o ws xs ys)
   of_formed form.And = of_both P xs ys px py
   of_formed form.Or = All-append _ xs ys px py
   of_formed form.Next = pw
@@ -68,7 +68,7 @@ module _ (P : Visit → Type 0) (ws xs ys : List Run) (pw : All (All P) ws) (px 
   of_formed form.Until = All-append _ ys _ py (of_both P ws xs pw px)
   of_formed form.Release = of_both P ys (ws ++ xs) py (All-append _ ws xs pw px)
 
-of_alone : (n : Bool) (b : ℕ) (f : Formula) (k : ℕ) (allowed : Bool) → (allowed ≡ true → Has (visits n b f) (visit k true)) → Of n b f (cond allowed ((visit k true ∷ []) ∷ []) [])
+of_alone : (n : Bool) (b : ℕ) (f : Formula) (k : ℕ) (allowed : Bool) → (allowed ≡ true → ContainsAt (visits n b f) (visit k true)) → Of n b f (cond allowed ((visit k true ∷ []) ∷ []) [])
 of_alone n b f k true h = ((h refl, tt), tt)
 of_alone n b f k false h = tt
 
@@ -88,7 +88,7 @@ module _ (waiting : Bool → ℕ → Formula → List Run) where
       (binary_form o n)
 
   of_waiting : (later : List Counts) → ((n : Bool) (b : ℕ) (f : Formula) → Of n b f (waiting n b f)) → (n : Bool) (b : ℕ) (f : Formula) → Of n b f (waiting_part run_lists later waiting n b f)
-  of_waiting [] o n b f = of_alone n b f (root b f) (accepts n f) (λ e. subst (λ a. Has (visits n b f) (visit (root b f) a)) e (own_visit n b f))
+  of_waiting [] o n b f = of_alone n b f (root b f) (accepts n f) (λ e. subst (λ a. ContainsAt (visits n b f) (visit (root b f) a)) e (own_visit n b f))
   of_waiting (t ∷ later) o n b f =
       of_both _ ((visit (root b f) (accepts n f) ∷ []) ∷ []) (waiting n b (awaited f))
       ((own_visit n b f, tt), tt) (wider _ _ (awaited_inside n b f) _ (o n b (awaited f)))

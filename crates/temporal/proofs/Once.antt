@@ -3,7 +3,7 @@
 use Rattle.std.proofs.Common.{◌≡◌, ℕ, zero, suc, ◌+◌, ◌<◌, ◌≤◌, Bool, true, false, cond, not, List, [], ◌∷◌, ◌++◌, map, length, get_or, sym, refl, ap, append_assoc, arith}
 use mathlib.Core.Bool.{false≢true}
 use mathlib.Core.List.{append_cancel_left, head-eq_of_cons-eq}
-use Rattle.std.specs.List.{AllByRecursion as All}
+use Rattle.std.specs.List.{AllByRecursion}
 use Rattle.std.proofs.ByRecursion.{All-append, All-map, All-weaker, all_has_itself, All-get_or}
 use Rattle.temporal.specs.Formula.{Formula, atom, negation, unary, binary, nodes}
 use Rattle.temporal.specs.Forms.{unary_form, binary_form, left_sign, accepts}
@@ -32,9 +32,9 @@ apart_before x y z w a u v e = a (y ++ u) (w ++ v) (simp append_assoc at e)
 -- a list of runs that are all apart
 abbrev Code : List Run → Type 0
 Code [] = Unit {0}
-Code (x ∷ xs) = All (Apart x) xs × Code xs
+Code (x ∷ xs) = AllByRecursion (Apart x) xs × Code xs
 
-code_append : (xs ys : List Run) → Code xs → Code ys → All (λ x. All (Apart x) ys) xs → Code (xs ++ ys)
+code_append : (xs ys : List Run) → Code xs → Code ys → AllByRecursion (λ x. AllByRecursion (Apart x) ys) xs → Code (xs ++ ys)
 code_append [] ys cx cy a = cy
 code_append (x ∷ xs) ys cx cy a = (All-append _ xs ys cx.0 a.0, code_append xs ys cx.1 cy a.1)
 
@@ -80,7 +80,7 @@ begins_apart d _ _ (begin {v = a} p q) (begin {v = b} r s) u v e =
 -- a code whose first nodes lie in an interval, and how the ways to make runs keep it so
 record Coded (lo hi : ℕ) (rs : List Run) : Type 0 where
   code : Code rs
-  begins : All (Begins lo hi) rs
+  begins : AllByRecursion (Begins lo hi) rs
 
 coded_none : {lo hi : ℕ} → Coded lo hi []
 coded_none = record { code = tt; begins = tt }

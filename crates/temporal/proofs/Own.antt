@@ -1,6 +1,6 @@
 -- Sets that agree on the rule's own waiting operators suffice alike.
 use Rattle.std.proofs.Common.{◌≡◌, ℕ, ◌+◌, Bool, true, false, cond, not, List, [], ◌∷◌, ◌++◌, filter, sym, refl, ◌∙◌, subst, true≢false}
-use Rattle.std.specs.List.{AllByRecursion as All}
+use Rattle.std.specs.List.{AllByRecursion}
 use Rattle.std.proofs.lemmas.List.Elements.{filter-append}
 use Rattle.std.proofs.ByRecursion.{All-append}
 use Rattle.temporal.specs.Formula.{Formula, atom, negation, unary, binary, nodes}
@@ -20,21 +20,21 @@ abbrev waiting : List Node → List Node
 waiting xs = filter (λ x. waits x.formula) xs
 
 module _ (P : Node → Type 0) where
-  all_apart : (xs ys : List Node) → All P (xs ++ ys) → All P xs × All P ys
+  all_apart : (xs ys : List Node) → AllByRecursion P (xs ++ ys) → AllByRecursion P xs × AllByRecursion P ys
   all_apart [] ys h = (tt, h)
   all_apart (x ∷ xs) ys h = let (p, q) = all_apart xs ys h.1 in ((h.0, p), q)
 
-  split : (xs ys : List Node) → All P (waiting (xs ++ ys)) → All P (waiting xs) × All P (waiting ys)
-  split xs ys h = all_apart (waiting xs) (waiting ys) (subst (All P) (filter-append (λ x. waits x.formula) xs ys) h)
+  split : (xs ys : List Node) → AllByRecursion P (waiting (xs ++ ys)) → AllByRecursion P (waiting xs) × AllByRecursion P (waiting ys)
+  split xs ys h = all_apart (waiting xs) (waiting ys) (subst (AllByRecursion P) (filter-append (λ x. waits x.formula) xs ys) h)
 
-  joined : (xs ys : List Node) → All P (waiting xs) → All P (waiting ys) → All P (waiting (xs ++ ys))
-  joined xs ys p q = subst (All P) (sym (filter-append (λ x. waits x.formula) xs ys)) (All-append P (waiting xs) (waiting ys) p q)
+  joined : (xs ys : List Node) → AllByRecursion P (waiting xs) → AllByRecursion P (waiting ys) → AllByRecursion P (waiting (xs ++ ys))
+  joined xs ys p q = subst (AllByRecursion P) (sym (filter-append (λ x. waits x.formula) xs ys)) (All-append P (waiting xs) (waiting ys) p q)
 
 abbrev Same : Marks → Marks → Node → Type 0
 Same v w x = v.waits x.negative x.first x.formula ≡ w.waits x.negative x.first x.formula
 
 abbrev Agree : Marks → Marks → Bool → ℕ → Formula → Type 0
-Agree v w n b f = All (Same v w) (waiting_operators n b f)
+Agree v w n b f = AllByRecursion (Same v w) (waiting_operators n b f)
 
 -- an operator that does not wait makes nothing of its waiting part
 unused : (o : Binary) (n : Bool) → binary_waits o ≡ false → (u t x y : Bool) → formed truths (binary_form o n) u x y ≡ formed truths (binary_form o n) t x y
@@ -52,7 +52,7 @@ same_formed o a b c = λ i. formed truths o (a i) (b i) (c i)
 
 module _ (v w : Marks) (n : Bool) (b : ℕ) where
   -- a binary operator's waiting part is the same, or unused
-  same_binary : (o : Binary) (f g : Formula) (t : Bool) → binary_waits o ≡ t → All (Same v w) (cond t (node n b (binary o f g) ∷ []) []) → (x y : Bool)
+  same_binary : (o : Binary) (f g : Formula) (t : Bool) → binary_waits o ≡ t → AllByRecursion (Same v w) (cond t (node n b (binary o f g) ∷ []) []) → (x y : Bool)
       → formed truths (binary_form o n) (v.waits n b (binary o f g)) x y ≡ formed truths (binary_form o n) (w.waits n b (binary o f g)) x y
   same_binary o f g true e own x y = same_formed (binary_form o n) own.0 refl refl
   same_binary o f g false e own x y = unused o n e _ _ x y
@@ -76,7 +76,7 @@ awaited_same s v w n b Next f h = given_same s v w n b f (split (Same v w) (in_o
 awaited_same s v w n b Always f h = given_same s v w n b (unary Always f) h
 awaited_same s v w n b Eventually f h = given_same s v w n b (unary Eventually f) h
 
-if_waits : (P : Node → Type 0) (t : Bool) (x : Node) → P x → All P (cond t (x ∷ []) [])
+if_waits : (P : Node → Type 0) (t : Bool) (x : Node) → P x → AllByRecursion P (cond t (x ∷ []) [])
 if_waits P true x p = (p, tt)
 if_waits P false x p = tt
 
