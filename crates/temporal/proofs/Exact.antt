@@ -2,10 +2,10 @@
 use Rattle.std.proofs.Common.{◌≡◌, ℕ, suc, ◌+◌, Bool, true, false, cond, not, ◌↔◌, List, [], ◌∷◌, ◌++◌, map, sym, refl, ap, inl, inr, ⊎_elim, arith}
 use mathlib.Core.List.Memᴰ.{append_left as in_left}
 use mathlib.Core.List.Memᴰ.{append_right as in_right}
-use mathlib.Core.List.Memᴰ.{cast as in-cast}
+use mathlib.Core.List.Memᴰ.{cast as in_cast}
 use mathlib.Core.List.Memᴰ.{head as in_head}
 use mathlib.Core.List.Memᴰ.{map as in_map}
-use mathlib.Core.List.Memᴰ.{tail as in_Tail}
+use mathlib.Core.List.Memᴰ.{tail as in_tail}
 use mathlib.Core.List.{Memᴰ as In}
 use Rattle.std.specs.List.{ContainsAt, AllByRecursion}
 use Rattle.std.proofs.ByRecursion.{All-append, All-map, All-weaker, all-has}
@@ -34,12 +34,12 @@ module _ {P Q : Run → Type 0} (R : Run → Type 0) where
 
 -- a run of one list, followed by a run of another, is in the list of these; what is in a list has a place there
 in_followed : {x y : Run} {xs ys : List Run} → In x xs → In y ys → In (x ++ y) (followed xs ys)
-in_followed {y = y} {ys = ys} (in_head {x = z} {xs = zs} e) q = in-cast (ap (λ v. v ++ y) e) (in_left (followed zs ys) (in_map (λ v. z ++ v) q))
-in_followed {ys = ys} (in_Tail {x = z} p) q = in_right (map (λ v. z ++ v) ys) (in_followed p q)
+in_followed {y = y} {ys = ys} (in_head {x = z} {xs = zs} e) q = in_cast (ap (λ v. v ++ y) e) (in_left (followed zs ys) (in_map (λ v. z ++ v) q))
+in_followed {ys = ys} (in_tail {x = z} p) q = in_right (map (λ v. z ++ v) ys) (in_followed p q)
 
 has : {x : Run} {xs : List Run} → In x xs → ContainsAt xs x
 has (in_head e) = (0, omega arith, λ d. sym e)
-has (in_Tail p) = let h = has p in (suc h.0, omega arith, h.2)
+has (in_tail p) = let h = has p in (suc h.0, omega arith, h.2)
 
 -- a list has exactly the runs of a relation
 record Exact (P : Run → Type 0) (rs : List Run) : Type 0 where
