@@ -78,6 +78,13 @@ impl Cause {
             Cause::JobTooLong | Cause::JobCutShort | Cause::TrailingBytes => Part::Job,
         }
     }
+
+    // The refusal by this cause, at that place.
+    pub fn at(self, place: usize) -> Refusal
+        ensures { (result.cause ≡ self) × (result.place ≡ place) }
+    {
+        Refusal { cause: self, place }
+    }
 }
 
 impl Part {
@@ -97,6 +104,14 @@ impl Part {
     }
 }
 
+impl fmt::Display for Part {
+    ghost output = { λ p. Some (part_text p) };
+
+    fn fmt<W: fmt::Write>(&self, f: &mut fmt::Formatter<W>) -> fmt::Result {
+        f.write_str(self.as_str())
+    }
+}
+
 // `refused 15 at 3 in tape`: number, place and part.
 impl fmt::Display for Refusal {
     ghost output = { λ e. Some (line (number e.cause) e.place (part e.cause)) };
@@ -104,7 +119,7 @@ impl fmt::Display for Refusal {
     fn fmt<W: fmt::Write>(&self, f: &mut fmt::Formatter<W>) -> fmt::Result {
         let number = self.cause.number();
         let place = self.place;
-        let part = self.cause.part().as_str();
+        let part = self.cause.part();
         write!(f, "refused {number} at {place} in {part}")
     }
 }

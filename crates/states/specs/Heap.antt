@@ -1,8 +1,11 @@
--- The heap record's vocabulary, and what each of its atoms means.
-use Rattle.std.specs.Prelude.{◌≡◌, Bool, true, List, [], ◌∷◌, codes, ◌==◌, nat_le, nat_lt}
-use Rattle.states.specs.Atoms.{Atom, words_of}
-use Rattle.states.specs.Vocabulary.{lawful_is, lawful_vocabulary}
+-- How a heap record is printed, its vocabulary, and what each of its atoms means.
+use Rattle.std.specs.Prelude.{ℕ, Bool, List, [], ◌∷◌, ◌++◌, codes, decimal, ◌==◌, nat_le, nat_lt}
+use Rattle.states.specs.Atoms.{Atom}
 use Rattle.states.specs.declared.heap.HeapRecord.{HeapRecord}
+
+-- the four numbers, with a slash between neighbours
+abbrev pub heap_text : HeapRecord → List ℕ
+heap_text h = decimal h.free ++ (codes "/" ++ (decimal h.largest ++ (codes "/" ++ (decimal h.wanted ++ (codes "/" ++ decimal h.outcome)))))
 
 abbrev pub asked : HeapRecord → Bool
 asked h = nat_lt 0 h.wanted
@@ -26,6 +29,3 @@ heap_atoms =
     ∷ (record { word = codes "fits"; means = fits }
     ∷ (record { word = codes "refused"; means = refused }
     ∷ (record { word = codes "dispensed"; means = dispensed } ∷ []))))
-
-pub heap_lawful : lawful_vocabulary (words_of heap_atoms) ≡ true
-heap_lawful = lawful_is (words_of heap_atoms)

@@ -1,11 +1,11 @@
-ghost use Rattle.std.specs.Prelude.{◌≡◌, true, false, MatchResult};
+ghost use Rattle.std.specs.Prelude.{◌≡◌, true, false, MatchResult, Some};
 ghost use Rattle.refusals.specs.Causes.{By};
 ghost use Rattle.states.specs.HeapLaw.{lawful_heap};
 
+use crate::answer::Answer;
+use crate::state::State;
 use refusals::{Cause, Refusal};
-
-// Apart, since definitions that name a struct with an invariant cannot be cited beside it.
-mod answers;
+use std::fmt;
 
 // What the controller noted of its heap: bytes free, the largest free block, the bytes wanted, and
 // what came of it. No record is unlawful: `new` is the only source.
@@ -46,10 +46,7 @@ impl HeapRecord {
                 outcome,
             })
         } else {
-            Err(Refusal {
-                cause: Cause::UnlawfulRecord,
-                place: 0,
-            })
+            Err(Cause::UnlawfulRecord.at(0))
         }
     }
 
@@ -75,5 +72,51 @@ impl HeapRecord {
         ensures { result ≡ self.now.outcome }
     {
         self.outcome
+    }
+}
+
+// The four numbers, as `1000/400/500/2`.
+impl fmt::Display for HeapRecord {
+    ghost use Rattle.states.specs.Heap.{heap_text};
+
+    ghost output = { λ h. Some (heap_text h) };
+
+    fn fmt<W: fmt::Write>(&self, f: &mut fmt::Formatter<W>) -> fmt::Result {
+        let free = self.free;
+        let largest = self.largest;
+        let wanted = self.wanted;
+        let outcome = self.outcome;
+        write!(f, "{free}/{largest}/{wanted}/{outcome}")
+    }
+}
+
+impl State for HeapRecord {
+    ghost use Rattle.std.specs.Prelude.{refl};
+    ghost use Rattle.states.specs.Atoms.{answers_by, no_past, words_of};
+    ghost use Rattle.states.specs.Heap.{heap_atoms};
+
+    const VOCABULARY: &'static str = "asked enough fits refused dispensed";
+
+    ghost words = { words_of heap_atoms };
+
+    ghost answers = { answers_by heap_atoms };
+
+    ghost lawful = { refl };
+
+    ghost past = { no_past heap_atoms };
+
+    fn word_list() -> &'static str {
+        Self::VOCABULARY
+    }
+
+    fn answer(&self, atom: usize) -> Answer {
+        Answer::from(match atom {
+            0 => self.wanted > 0,
+            1 => self.free >= self.wanted,
+            2 => self.largest >= self.wanted,
+            3 => self.outcome == Self::REFUSED,
+            4 => self.outcome == Self::DISPENSED,
+            _ => false,
+        })
     }
 }

@@ -9,23 +9,23 @@ use crate::answer::Answer;
 // place in the vocabulary.
 pub trait State: Copy {
     // The words in order, one space between neighbours.
-    const VOCABULARY: &'static [u8];
+    const VOCABULARY: &'static str;
 
     // The words, each by its letters.
     ghost words: { List (List ℕ) };
 
-    ghost lawful: { lawful_vocabulary words ≡ true };
-
     // The meaning of a state: its answer to each atom.
     ghost answers: { Self → ℕ → Answer };
 
-    // An atom past the vocabulary is answered no.
-    ghost past: { (s : Self) (atom : ℕ) → length words ≤ atom → answers s atom ≡ answered false };
-
     // The constant: generic code knows its value only by this promise.
-    fn word_list() -> &'static [u8]
+    fn word_list() -> &'static str
         ensures { result.now ≡ listed_words words };
 
     fn answer(&self, atom: usize) -> Answer
         ensures { result ≡ answers self.now atom };
+
+    ghost lawful: { lawful_vocabulary words ≡ true };
+
+    // An atom past the vocabulary is answered no.
+    ghost past: { (s : Self) (atom : ℕ) → length words ≤ atom → answers s atom ≡ answered false };
 }

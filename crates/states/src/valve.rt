@@ -1,10 +1,9 @@
 ghost use Rattle.std.specs.Prelude.{◌≡◌, ◌<◌, ◌≤◌, MatchResult};
 ghost use Rattle.refusals.specs.Causes.{By};
 
+use crate::answer::Answer;
+use crate::state::State;
 use refusals::{Cause, Refusal};
-
-// Apart, since definitions that name a struct with an invariant cannot be cited beside it.
-mod answers;
 
 // What the controller noted of its valves: sixteen valve bits, and whether the pump ran (0 or 1).
 #[derive(Clone, Copy, PartialEq, Eq, Debug)]
@@ -22,10 +21,7 @@ impl ValveRecord {
         if pump <= 1 {
             Ok(ValveRecord { bits, pump })
         } else {
-            Err(Refusal {
-                cause: Cause::PumpTooLarge,
-                place: 0,
-            })
+            Err(Cause::PumpTooLarge.at(0))
         }
     }
 
@@ -39,5 +35,59 @@ impl ValveRecord {
         ensures { result ≡ self.now.pump }
     {
         self.pump
+    }
+}
+
+// Its three bytes: the valve bits, high byte first, then the pump.
+impl From<ValveRecord> for [u8; 3] {
+    ghost use Rattle.states.specs.Valve.{encoded};
+
+    ghost from_gives = { λ v bytes. bytes ≡ encoded v };
+
+    fn from(record: ValveRecord) -> [u8; 3] {
+        let [high, low] = record.bits.to_be_bytes();
+        [high, low, record.pump]
+    }
+}
+
+// The record of three bytes, refused exactly if the pump byte exceeds 1.
+impl TryFrom<[u8; 3]> for ValveRecord {
+    ghost use Rattle.states.specs.Valve.{Decodes};
+
+    type Error = Refusal;
+
+    ghost try_from_gives = { Decodes };
+
+    fn try_from(bytes: [u8; 3]) -> Result<ValveRecord, Refusal> {
+        let [high, low, pump] = bytes;
+        ValveRecord::new(u16::from_be_bytes([high, low]), pump)
+    }
+}
+
+impl State for ValveRecord {
+    ghost use Rattle.std.specs.Prelude.{refl};
+    ghost use Rattle.states.specs.Atoms.{answers_by, no_past, words_of};
+    ghost use Rattle.states.specs.Valve.{valve_atoms};
+
+    const VOCABULARY: &'static str = "pumping open";
+
+    ghost words = { words_of valve_atoms };
+
+    ghost answers = { answers_by valve_atoms };
+
+    ghost lawful = { refl };
+
+    ghost past = { no_past valve_atoms };
+
+    fn word_list() -> &'static str {
+        Self::VOCABULARY
+    }
+
+    fn answer(&self, atom: usize) -> Answer {
+        Answer::from(match atom {
+            0 => self.pump == 1,
+            1 => self.bits > 0,
+            _ => false,
+        })
     }
 }

@@ -1,8 +1,9 @@
 -- Valve records in bytes, three a record: the valve bits, high byte first, then the pump.
-use Rattle.std.specs.Prelude.{◌≡◌, ℕ, ◌+◌, ◌*◌, ◌/◌, ◌%◌, ◌<◌, ◌≤◌, min, ◌⊎◌, List, [], ◌∷◌, map, length, slice_index, slice_index_or, slice_set}
+use Rattle.std.specs.Prelude.{◌≡◌, ℕ, ◌+◌, ◌*◌, ◌/◌, ◌%◌, ◌<◌, ◌≤◌, min, ◌⊎◌, List, map, length, slice_index, slice_index_or, slice_set}
 use Rattle.std.proofs.Math.Nat.{min-le_right}
 use Rattle.refusals.specs.Causes.{By}
 use Rattle.refusals.specs.declared.Refusal.{Refusal}
+use Rattle.states.specs.Valve.{encoded}
 use Rattle.states.specs.declared.valve.ValveRecord.{ValveRecord}
 use Rattle.std.specs.List.{range_with_len}
 
@@ -28,9 +29,6 @@ valve_at bytes k = record { bits = bits_at bytes k; pump = min (pump_at bytes k)
 -- the first n records
 abbrev pub valves : ℕ → List ℕ → List ValveRecord
 valves n bytes = map (valve_at bytes) (range_with_len 0 n)
-
-abbrev pub encoded : ValveRecord → List ℕ
-encoded v = (v.bits / 256) ∷ ((v.bits % 256) ∷ (v.pump ∷ []))
 
 -- the bytes with these three as those of the record numbered k, and no other changed
 abbrev pub stored : List ℕ → ℕ → List ℕ → List ℕ

@@ -29,10 +29,6 @@ impl<'a, S: State> Tape for Cells<'a, S> {
     }
 
     fn at(&self, place: usize) -> Option<S> {
-        if place < self.cells.len() {
-            Some(self.cells[place])
-        } else {
-            None
-        }
+        self.cells.get(place).copied()
     }
 }

@@ -2,6 +2,7 @@
 #![tactic(auto)]
 
 pub mod cells;
+pub mod iter;
 pub mod log;
 pub mod tape;
 pub mod valve_log;

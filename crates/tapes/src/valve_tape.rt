@@ -1,21 +1,23 @@
-ghost use Rattle.std.specs.Prelude.{◌≡◌, ◌/◌, ◌<◌, List, length, MatchResult};
+ghost use Rattle.std.specs.Prelude.{◌≡◌, ◌/◌, ◌%◌, ◌<◌, List, length, MatchOption, MatchResult};
 ghost use Rattle.states.specs.declared.valve.ValveRecord.{ValveRecord};
-ghost use Rattle.tapes.specs.Lent.{valve_tape_states};
-ghost use Rattle.tapes.specs.Valves.{Encodes, Unreadable, valve_at};
+ghost use Rattle.tapes.specs.Valves.{Encodes, LawfulPumps, Unreadable, pump_at};
 
 use crate::tape::Tape;
 use refusals::{Cause, Refusal};
 use states::valve::ValveRecord;
 
 // A tape of valve records over lent bytes, three a record, to read. It is made by `new` or by a
-// growing tape, and none has a pump byte above 1; a ghost field that said so could not be returned in
-// a `Result` yet.
+// growing tape.
 #[derive(Clone, Copy)]
 pub struct ValveTape<'a> {
     pub(crate) bytes: &'a [u8],
+    ghost whole: { length bytes.now % 3 ≡ 0 },
+    ghost lawful: { LawfulPumps (length bytes.now / 3) bytes.now },
 }
 
 impl<'a> ValveTape<'a> {
+    ghost use Rattle.tapes.specs.Lent.{valve_tape_states};
+
     // The tape of all the bytes. They are refused with their number if it is no multiple of three, or
     // else with the number of the first record whose pump byte exceeds 1. Bytes that encode records
     // are read back as those.
@@ -24,24 +26,18 @@ impl<'a> ValveTape<'a> {
         ensures read_back { (records : List ValveRecord) → Encodes bytes.now records → MatchResult result (λ t. valve_tape_states t ≡ records) (λ _. ⊥) }
     {
         if bytes.len() % 3 != 0 {
-            return Err(Refusal {
-                cause: Cause::PartialRecord,
-                place: bytes.len(),
-            });
+            return Err(Cause::PartialRecord.at(bytes.len()));
         }
-        for place in 0..bytes.len() / 3 {
-            if bytes[3 * place + 2] > 1 {
-                return Err(Refusal {
-                    cause: Cause::PumpTooLarge,
-                    place,
-                });
-            }
+        match first_unlawful(bytes) {
+            Some(place) => Err(Cause::PumpTooLarge.at(place)),
+            None => Ok(ValveTape { bytes }),
         }
-        Ok(ValveTape { bytes })
     }
 }
 
 impl<'a> Tape for ValveTape<'a> {
+    ghost use Rattle.tapes.specs.Lent.{valve_tape_states};
+
     type Item = ValveRecord;
 
     ghost states = { valve_tape_states };
@@ -51,24 +47,16 @@ impl<'a> Tape for ValveTape<'a> {
     }
 
     fn at(&self, place: usize) -> Option<ValveRecord> {
-        if place < self.bytes.len() / 3 {
-            Some(read_record(self.bytes, place))
-        } else {
-            None
-        }
+        let (records, _) = self.bytes.as_chunks::<3>();
+        let record = records.get(place)?;
+        Some(ValveRecord::try_from(*record).unwrap())
     }
 }
 
-// The record at a place. No pump byte of a tape exceeds 1, so `min` changes none; it is here since the
-// tape's type cannot say so.
-fn read_record(bytes: &[u8], place: usize) -> ValveRecord
-    requires { place < length bytes.now / 3 }
-    ensures { result ≡ valve_at bytes.now place }
+// The number of the first whole record whose pump byte exceeds 1.
+fn first_unlawful(bytes: &[u8]) -> Option<usize>
+    ensures { MatchOption result (LawfulPumps (length bytes.now / 3) bytes.now) (λ k. (k < length bytes.now / 3) × (1 < pump_at bytes.now k) × LawfulPumps k bytes.now) }
 {
-    let at = 3 * place;
-    let bits = u16::from_be_bytes([bytes[at], bytes[at + 1]]);
-    match ValveRecord::new(bits, bytes[at + 2].min(1)) {
-        Ok(record) => record,
-        Err(_) => unreachable(),
-    }
+    let (records, _) = bytes.as_chunks::<3>();
+    records.iter().position(|[_, _, pump]| *pump > 1)
 }

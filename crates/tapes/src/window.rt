@@ -4,8 +4,10 @@ ghost use Rattle.tapes.specs.Windows.{Checked, Inside};
 
 use crate::tape::Tape;
 use refusals::{Cause, Refusal};
+use std::marker::Model;
+use std::ops::Range;
 
-// A part of a tape, from `start` up to and without `end`, which is again a tape.
+// A part of a tape, which is again a tape: seen as the states of that part.
 #[derive(Drop)]
 pub struct Window<T: Tape> {
     below: T,
@@ -13,26 +15,35 @@ pub struct Window<T: Tape> {
     end: usize,
 }
 
+impl<T: Tape> Model for Window<T> {
+    ghost use Rattle.std.specs.Prelude.{◌≤◌, List, length};
+    ghost use Rattle.std.specs.List.{between};
+
+    ghost Value = { List T.Item };
+
+    ghost view = { λ w. between w.start w.end (T.Tape.states w.below) };
+
+    ghost invariant = { λ w. (w.start ≤ w.end) × (w.end ≤ length (T.Tape.states w.below)) };
+}
+
 impl<T: Tape> Window<T> {
-    // Whether the tape has such a part; refused with `start`.
-    pub fn check(below: &T, start: usize, end: usize) -> Result<(), Refusal>
-        ensures { Checked (length (T.Tape.states below.now)) start end result }
+    // Whether the tape has such a part; refused with its start.
+    pub fn check(below: &T, part: Range<usize>) -> Result<(), Refusal>
+        ensures { Checked (length (T.Tape.states below.now)) part.start part.end result }
     {
-        if start <= end && end <= below.len() {
+        if part.start <= part.end && part.end <= below.len() {
             Ok(())
         } else {
-            Err(Refusal {
-                cause: Cause::BadWindow,
-                place: start,
-            })
+            Err(Cause::BadWindow.at(part.start))
         }
     }
 
     // The window over a part that `check` has found.
-    pub fn new(below: T, start: usize, end: usize) -> Window<T>
-        requires { Inside (length (T.Tape.states below)) start end }
-        ensures { between result.start result.end (T.Tape.states result.below) ≡ between start end (T.Tape.states below) }
+    pub fn new(below: T, part: Range<usize>) -> Window<T>
+        requires { Inside (length (T.Tape.states below)) part.start part.end }
+        ensures { result ≡ between part.start part.end (T.Tape.states below) }
     {
+        let Range { start, end } = part;
         Window { below, start, end }
     }
 }
@@ -40,18 +51,17 @@ impl<T: Tape> Window<T> {
 impl<T: Tape> Tape for Window<T> {
     type Item = T::Item;
 
-    ghost states = { λ w. between w.start w.end (T.Tape.states w.below) };
+    ghost states = { λ states. states };
 
-    // The end is within the tape below, but no invariant can cite that tape's list: hence `min`.
     fn len(&self) -> usize {
-        self.end.min(self.below.len()).saturating_sub(self.start)
+        self.end - self.start
     }
 
     fn at(&self, place: usize) -> Option<T::Item> {
-        let at = self.start.saturating_add(place);
-        match self.below.at(at) {
-            Some(state) if at < self.end => Some(state),
-            _ => None,
+        if place < self.end - self.start {
+            self.below.at(self.start + place)
+        } else {
+            None
         }
     }
 }

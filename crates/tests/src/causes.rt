@@ -1,5 +1,7 @@
 // Each cause's number and part.
-use refusals::Cause;
+use crate::seen::refused;
+use refusals::{Cause, Refusal};
+use std::test::Fail;
 
 #[test]
 fn each_cause_has_its_number_and_part(rt: HostRuntime) {
@@ -25,4 +27,13 @@ fn each_cause_has_its_number_and_part(rt: HostRuntime) {
         assert_eq!(rt; cause.number(), number);
         assert_eq!(rt; cause.part().as_str(), word);
     }
+}
+
+#[test]
+fn a_cause_is_refused_at_a_place(rt: HostRuntime) -> Result<(), Fail> {
+    let refusal = Cause::TapeFull.at(3);
+    assert_eq!(rt; Err::<(), Refusal>(refusal), refused(Cause::TapeFull, 3));
+    let text = format!(in rt.alloc(); "{refusal}; {}", refusal.cause.part())?;
+    assert_eq!(rt; text.as_str(), "refused 15 at 3 in tape; tape");
+    Ok(())
 }

@@ -63,3 +63,36 @@ fn a_log_of_two_cells_writes_one_at_a_time(rt: HostRuntime) -> Result<(), Fail> 
     assert_eq!(rt; cells, [second, first]);
     Ok(())
 }
+
+#[test]
+fn a_tape_is_gone_over_from_either_end(rt: HostRuntime) -> Result<(), Fail> {
+    let cells = [idle()?, dispensed()?, idle()?];
+    let tape = Cells::new(&cells);
+    let mut forward = tape.iter();
+    assert_eq!(rt;
+        [
+            forward.next(),
+            forward.next(),
+            forward.next(),
+            forward.next()
+        ],
+        [Some(cells[0]), Some(cells[1]), Some(cells[2]), None]
+    );
+    let mut backward = tape.iter().rev();
+    assert_eq!(rt;
+        [
+            backward.next(),
+            backward.next(),
+            backward.next(),
+            backward.next()
+        ],
+        [Some(cells[2]), Some(cells[1]), Some(cells[0]), None]
+    );
+    let mut both = tape.iter();
+    assert_eq!(rt;
+        [both.next_back(), both.next(), both.next_back(), both.next()],
+        [Some(cells[2]), Some(cells[0]), Some(cells[1]), None]
+    );
+    assert_eq!(rt; Cells::new(&cells[..0]).iter().next(), None);
+    Ok(())
+}

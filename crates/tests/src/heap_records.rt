@@ -1,9 +1,10 @@
 // A heap record's law on both sides of each of its limits, and the answers of its atoms.
-use crate::seen::refused;
+use crate::seen::{lists_words, refused};
 use refusals::Cause;
 use states::answer::Answer;
 use states::heap::HeapRecord;
 use states::state::State;
+use std::array;
 use std::test::Fail;
 
 #[test]
@@ -57,11 +58,7 @@ fn unlawful_records_are_refused(rt: HostRuntime) {
 
 // The atoms answered yes, of those numbered 0 to 7.
 fn yes(record: HeapRecord) -> [bool; 8] {
-    let mut found = [false; 8];
-    for atom in 0..8 {
-        found[atom] = record.answer(atom) == Answer::Yes;
-    }
-    found
+    array::from_fn(|atom| record.answer(atom) == Answer::Yes)
 }
 
 #[test]
@@ -89,6 +86,13 @@ fn atoms_go_by_the_numbers(rt: HostRuntime) -> Result<(), Fail> {
 
 #[test]
 fn the_vocabulary_is_listed(rt: HostRuntime) {
-    assert!(rt; HeapRecord::VOCABULARY == b"asked enough fits refused dispensed".as_slice());
-    assert!(rt; HeapRecord::word_list() == HeapRecord::VOCABULARY);
+    lists_words::<HeapRecord>(&rt, "asked enough fits refused dispensed");
+}
+
+#[test]
+fn the_four_numbers_are_printed(rt: HostRuntime) -> Result<(), Fail> {
+    let record = HeapRecord::new(16_777_216, 400, 500, 2)?;
+    let text = format!(in rt.alloc(); "{record}")?;
+    assert_eq!(rt; text.as_str(), "16777216/400/500/2");
+    Ok(())
 }

@@ -1,5 +1,5 @@
 // A valve record's law on both sides of its limit, and the answers of its atoms.
-use crate::seen::refused;
+use crate::seen::{lists_words, refused};
 use refusals::Cause;
 use states::answer::Answer;
 use states::state::State;
@@ -39,6 +39,29 @@ fn atoms_go_by_pump_and_bits(rt: HostRuntime) -> Result<(), Fail> {
 
 #[test]
 fn the_vocabulary_is_listed(rt: HostRuntime) {
-    assert!(rt; ValveRecord::VOCABULARY == b"pumping open".as_slice());
-    assert!(rt; ValveRecord::word_list() == ValveRecord::VOCABULARY);
+    lists_words::<ValveRecord>(&rt, "pumping open");
+}
+
+#[test]
+fn a_record_has_three_bytes(rt: HostRuntime) -> Result<(), Fail> {
+    let record = ValveRecord::new(0x1234, 1)?;
+    let bytes: [u8; 3] = record.into();
+    assert_eq!(rt; bytes, [0x12, 0x34, 1]);
+    assert_eq!(rt; ValveRecord::try_from(bytes), Ok(record));
+    assert_eq!(rt;
+        ValveRecord::try_from([0, 0, 2]),
+        refused(Cause::PumpTooLarge, 0)
+    );
+    assert_eq!(rt;
+        ValveRecord::try_from([0xff, 0xff, 0]),
+        ValveRecord::new(0xffff, 0)
+    );
+    Ok(())
+}
+
+#[test]
+fn answers_are_printed(rt: HostRuntime) -> Result<(), Fail> {
+    let text = format!(in rt.alloc(); "{} {}", Answer::from(true), Answer::from(false))?;
+    assert_eq!(rt; text.as_str(), "yes no");
+    Ok(())
 }

@@ -15,17 +15,17 @@ fn bounds_are_checked(rt: HostRuntime) -> Result<(), Fail> {
     let cells = [HeapRecord::new(1_000, 400, 0, 0)?; 3];
     let tape = Cells::new(&cells);
     for (start, end) in [(0, 0), (0, 3), (1, 2), (2, 2), (3, 3)] {
-        assert_eq!(rt; Window::check(&tape, start, end), Ok(()));
+        assert_eq!(rt; Window::check(&tape, start..end), Ok(()));
     }
     for (start, end) in [(0, 4), (2, 1), (3, 4), (4, 4), (4, 3)] {
         assert_eq!(rt;
-            Window::check(&tape, start, end),
+            Window::check(&tape, start..end),
             refused(Cause::BadWindow, start)
         );
     }
     for (start, end) in [(0, usize::MAX), (usize::MAX, 0), (usize::MAX, usize::MAX)] {
         assert_eq!(rt;
-            Window::check(&tape, start, end),
+            Window::check(&tape, start..end),
             refused(Cause::BadWindow, start)
         );
     }
@@ -39,13 +39,13 @@ fn a_window_is_that_part(rt: HostRuntime) -> Result<(), Fail> {
     let third = HeapRecord::new(1_000, 400, 300, 1)?;
     let cells = [first, second, third];
     let tape = Cells::new(&cells);
-    Window::check(&tape, 1, 3)?;
-    let window = Window::new(tape, 1, 3);
+    Window::check(&tape, 1..3)?;
+    let window = Window::new(tape, 1..3);
     assert_eq!(rt; seen(&window), (2, [Some(second), Some(third), None]));
     assert_eq!(rt; window.at(usize::MAX), None);
-    assert_eq!(rt; Window::check(&window, 0, 3), refused(Cause::BadWindow, 0));
-    Window::check(&window, 1, 2)?;
-    let inner = Window::new(window, 1, 2);
+    assert_eq!(rt; Window::check(&window, 0..3), refused(Cause::BadWindow, 0));
+    Window::check(&window, 1..2)?;
+    let inner = Window::new(window, 1..2);
     assert_eq!(rt; seen(&inner), (1, [Some(third), None, None]));
     Ok(())
 }
@@ -58,11 +58,11 @@ fn a_growing_tape_has_windows(rt: HostRuntime) -> Result<(), Fail> {
     let mut log = Log::new(&mut cells);
     log.append(first)?;
     log.append(second)?;
-    assert_eq!(rt; Window::check(&log, 1, 3), refused(Cause::BadWindow, 1));
+    assert_eq!(rt; Window::check(&log, 1..3), refused(Cause::BadWindow, 1));
     let tape = log.tape();
-    Window::check(&tape, 1, 2)?;
+    Window::check(&tape, 1..2)?;
     assert_eq!(rt;
-        seen(&Window::new(tape, 1, 2)),
+        seen(&Window::new(tape, 1..2)),
         (1, [Some(second), None, None])
     );
     Ok(())
@@ -72,13 +72,29 @@ fn a_growing_tape_has_windows(rt: HostRuntime) -> Result<(), Fail> {
 fn an_empty_window_has_no_state(rt: HostRuntime) -> Result<(), Fail> {
     let bytes = [0, 1, 1];
     let tape = ValveTape::new(&bytes)?;
-    Window::check(&tape, 0, 1)?;
-    let all = Window::new(tape, 0, 1);
+    Window::check(&tape, 0..1)?;
+    let all = Window::new(tape, 0..1);
     assert_eq!(rt;
         seen(&all),
         (1, [Some(ValveRecord::new(1, 1)?), None, None])
     );
-    Window::check(&tape, 1, 1)?;
-    assert_eq!(rt; seen(&Window::new(tape, 1, 1)), (0, [None, None, None]));
+    Window::check(&tape, 1..1)?;
+    assert_eq!(rt; seen(&Window::new(tape, 1..1)), (0, [None, None, None]));
+    Ok(())
+}
+
+#[test]
+fn a_window_takes_a_growing_tape_along(rt: HostRuntime) -> Result<(), Fail> {
+    let first = HeapRecord::new(1_000, 400, 0, 0)?;
+    let second = HeapRecord::new(1_000, 400, 500, 2)?;
+    let mut cells = [first; 3];
+    let mut log = Log::new(&mut cells);
+    log.append(first)?;
+    log.append(second)?;
+    Window::check(&log, 1..2)?;
+    assert_eq!(rt;
+        seen(&Window::new(log, 1..2)),
+        (1, [Some(second), None, None])
+    );
     Ok(())
 }

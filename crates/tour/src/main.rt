@@ -14,31 +14,31 @@ use tapes::valve_tape::ValveTape;
 use tapes::window::Window;
 
 // A line for each state: the answer to each word of its kind.
-fn show_states<T: Tape>(rt: &impl Print, tape: &T) -> anyhow::Result<()> {
-    let words = std::str::from_utf8(T::Item::word_list())?;
-    for place in 0..tape.len() {
-        if let Some(state) = tape.at(place) {
-            print!(rt; "  {place}:")?;
-            for (atom, word) in words.split(' ').enumerate() {
-                print!(rt; " {word} {}", state.answer(atom).as_str())?;
-            }
-            println!(rt)?;
+fn show_states<T: Tape>(rt: &impl Print, tape: &T) -> io::Result<()> {
+    for (place, state) in tape.iter().enumerate() {
+        print!(rt; "  {place}:")?;
+        for (atom, word) in T::Item::word_list().split(' ').enumerate() {
+            print!(rt; " {word} {}", state.answer(atom))?;
         }
+        println!(rt)?;
     }
     Ok(())
+}
+
+// A line for why something was refused, if it was.
+fn show_refusal<T: Drop>(rt: &impl Print, outcome: Result<T, Refusal>) -> io::Result<()> {
+    match outcome {
+        Ok(_) => Ok(()),
+        Err(refusal) => println!(rt; "  {refusal}"),
+    }
 }
 
 // Notes the records one by one, and tells what came of each.
 fn note_all(rt: &impl Print, log: &mut Log<HeapRecord>, records: &[HeapRecord]) -> io::Result<()> {
     for record in records {
-        let free = record.free();
-        let largest = record.largest();
-        let wanted = record.wanted();
-        let outcome = record.outcome();
-        print!(rt; "  {free}/{largest}/{wanted}/{outcome}: ")?;
         match log.append(*record) {
-            Ok(()) => println!(rt; "noted")?,
-            Err(refusal) => println!(rt; "{refusal}")?,
+            Ok(()) => println!(rt; "  {record}: noted")?,
+            Err(refusal) => println!(rt; "  {record}: {refusal}")?,
         }
     }
     Ok(())
@@ -54,13 +54,10 @@ fn show_heap(rt: &impl Print) -> anyhow::Result<()> {
     note_all(rt, &mut log, &[refused, idle, dispensed, refused])?;
     show_states(rt, &log)?;
     println!(rt; "window from 1 to 3")?;
-    Window::check(&log, 1, 3)?;
-    show_states(rt, &Window::new(log.tape(), 1, 3))?;
+    Window::check(&log, 1..3)?;
+    show_states(rt, &Window::new(log.tape(), 1..3))?;
     println!(rt; "window from 2 to 4")?;
-    match Window::check(&log, 2, 4) {
-        Ok(()) => println!(rt; "  found")?,
-        Err(refusal) => println!(rt; "  {refusal}")?,
-    }
+    show_refusal(rt, Window::check(&log, 2..4))?;
     Ok(())
 }
 
@@ -70,30 +67,22 @@ fn show_valves(rt: &impl Print) -> anyhow::Result<()> {
     let mut log = ValveLog::new(&mut bytes);
     log.append(ValveRecord::new(0x1234, 1)?)?;
     log.append(ValveRecord::new(0, 1)?)?;
-    if let Err(refusal) = log.append(ValveRecord::new(1, 0)?) {
-        println!(rt; "  {refusal}")?;
-    }
+    show_refusal(rt, log.append(ValveRecord::new(1, 0)?))?;
     print!(rt; "  bytes:")?;
     for byte in bytes {
         print!(rt; " {byte:02x}")?;
     }
     println!(rt)?;
     show_states(rt, &ValveTape::new(&bytes[0..6])?)?;
-    if let Err(refusal) = ValveTape::new(&bytes) {
-        println!(rt; "  {refusal}")?;
-    }
+    show_refusal(rt, ValveTape::new(&bytes))?;
     Ok(())
 }
 
 // A record of each kind that is refused.
 fn show_refused_records(rt: &impl Print) -> io::Result<()> {
     println!(rt; "unlawful records")?;
-    if let Err(refusal) = HeapRecord::new(1_000, 1_001, 0, HeapRecord::IDLE) {
-        println!(rt; "  {refusal}")?;
-    }
-    if let Err(refusal) = ValveRecord::new(0, 2) {
-        println!(rt; "  {refusal}")?;
-    }
+    show_refusal(rt, HeapRecord::new(1_000, 1_001, 0, HeapRecord::IDLE))?;
+    show_refusal(rt, ValveRecord::new(0, 2))?;
     Ok(())
 }
 

@@ -1,7 +1,6 @@
 use Rattle.std.proofs.Common.{rules}
-use native.Mathlib.Nat.{sub-zero}
 use Rattle.tapes.proofs.Bytes.{encodes_taken, length-valves, valves_taken}
 use Rattle.tapes.proofs.valve_log.ValveLog.tape.Goals as goal
 
 pub returns : goal.returns
-returns c = simp (sub-zero, length-valves) (search (rules, encodes_taken, valves_taken))
+returns c = simp length-valves (search (rules, encodes_taken, valves_taken))

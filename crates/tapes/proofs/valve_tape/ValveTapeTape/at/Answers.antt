@@ -1,10 +1,23 @@
-use Rattle.std.proofs.Common.{rules}
+use Rattle.std.proofs.Common.{get_or, rules, ◌≡◌, ◌/◌, length}
 use Rattle.std.proofs.lemmas.List.FromFn.{get_or-map-range_with_len}
-use Rattle.tapes.proofs.Bytes.{length-valves}
+use Rattle.std.specs.Simd.{first_chunks}
+use Rattle.tapes.proofs.Bytes.{decoded, length-valves, readable}
 use Rattle.tapes.proofs.valve_tape.ValveTapeTape.at.Goals as goal
 
-pub returns-then-place-self : goal.returns-then-place-self
-returns-then-place-self c = search (rules, length-valves, get_or-map-range_with_len)
+pub returns-in_err-record : goal.returns-in_err-record
+returns-in_err-record c = search (rules, length-valves)
 
-pub returns-else-place-self : goal.returns-else-place-self
-returns-else-place-self c = search (rules, length-valves)
+pub unwrap-requires : goal.unwrap-requires
+unwrap-requires c =
+    let bytes = c.args.self.now.bytes.now in
+    let three = c.in_ok-record.record.now in
+    let is : three ≡ get_or (first_chunks 3 (length bytes / 3) bytes) c.args.place three = search rules in
+    readable bytes c.args.place three (search rules) is c.args.self.now.lawful c.try_from.result c.try_from.ensures
+
+pub returns : goal.returns
+returns c =
+    let bytes = c.args.self.now.bytes.now in
+    let three = c.in_ok-record.record.now in
+    let is : three ≡ get_or (first_chunks 3 (length bytes / 3) bytes) c.args.place three = search rules in
+    let same = decoded bytes c.args.place three (search rules) is c.unwrap.result (search rules) in
+    search (rules, length-valves, get_or-map-range_with_len)
