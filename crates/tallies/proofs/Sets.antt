@@ -25,8 +25,7 @@ weight_bit n k false e = ap (λ d. eqb d 1) (bit_at-zero k) ∙ grind (arith, na
 -- a number is the sum of the powers of its bits
 digit_part : (d p : ℕ) → d < 2 → cond (d == 1) p 0 ≡ d * p
 digit_part zero p h = omega arith
-digit_part (suc zero) p h = omega arith
-digit_part (suc (suc d)) p h = absurd (omega arith)
+digit_part (suc d) p h = grind (arith, nat_tests)
 
 power_sum_is : (n w : ℕ) → power_sum (has (of_bits n)) w ≡ n % 2 ^ w
 unfolding power_sum
