@@ -62,7 +62,7 @@ impl Formula {
             return W::none();
         };
         let node = first.saturating_add(self.nodes()).saturating_sub(1);
-        let last = later.is_empty();
+        let goes_on = !later.is_empty();
         match self {
             Formula::Atom(atom) => {
                 let yes = state.answer(*atom) == Answer::Yes;
@@ -70,17 +70,17 @@ impl Formula {
             }
             Formula::Not(operand) => operand.worth(!negative, first, states),
             Formula::One(operator, operand) => {
-                let awaited = match operator {
+                let awaited = goes_on.then_some(match operator {
                     Unary::Next => operand.worth(negative, first, later),
                     Unary::Always | Unary::Eventually => self.worth(negative, first, later),
-                };
-                let waiting = waiting_part(last, node, operator.accepting(negative), awaited);
+                });
+                let waiting = waiting_part(node, operator.accepting(negative), awaited);
                 let worth: W = operand.worth(negative, first, states);
                 formed(operator.form(negative), waiting, worth, worth)
             }
             Formula::Two(operator, left, right) => {
-                let awaited = self.worth(negative, first, later);
-                let waiting = waiting_part(last, node, operator.accepting(negative), awaited);
+                let awaited = goes_on.then_some(self.worth(negative, first, later));
+                let waiting = waiting_part(node, operator.accepting(negative), awaited);
                 let middle = first.saturating_add(left.nodes());
                 formed(
                     operator.form(negative),
@@ -105,13 +105,12 @@ fn alone<W: Tally>(node: usize, counts: bool) -> W {
     }
 }
 
-// The visit of a waiting operator's node, and then what is awaited; at the last state the visit alone,
-// if it is accepting.
-fn waiting_part<W: Tally>(last: bool, node: usize, accepting: bool, awaited: W) -> W {
-    if last {
-        alone(node, accepting)
-    } else {
-        W::weight(Visit { node, accepting }).combine(awaited)
+// The visit of a waiting operator's node, and then what is awaited; at the last state, where nothing
+// is, the visit alone, if it is accepting.
+fn waiting_part<W: Tally>(node: usize, accepting: bool, awaited: Option<W>) -> W {
+    match awaited {
+        Some(awaited) => W::weight(Visit { node, accepting }).combine(awaited),
+        None => alone(node, accepting),
     }
 }
 

@@ -3,13 +3,26 @@
 use crate::formula::Formula;
 use refusals::Refusal;
 use states::heap::HeapRecord;
-use std::io;
+use std::{fmt, io};
 use tallies::overdue::Overdue;
 use tallies::shared::Shared;
 use tallies::verdict::Verdict;
 use temporal::operators::{Binary, Unary};
 
-// A line for one rule on one tape; none is printed as `-`.
+// What a tally comes to; none is printed as `-`.
+#[derive(Clone, Copy)]
+struct Worth(Option<u64>);
+
+impl fmt::Display for Worth {
+    fn fmt<W: fmt::Write>(&self, f: &mut fmt::Formatter<W>) -> fmt::Result {
+        match self.0 {
+            Some(number) => write!(f, "{number}"),
+            None => f.write_str("-"),
+        }
+    }
+}
+
+// A line for one rule on one tape.
 fn show_row(
     rt: &impl Print,
     rule: &str,
@@ -20,15 +33,9 @@ fn show_row(
     let verdict: Verdict = formula.worth(false, 0, states);
     let overdue: Overdue = formula.worth(false, 0, states);
     let shared: Shared = formula.worth(false, 0, states);
-    print!(rt; "  {rule} on {tape}: {}", verdict.as_str())?;
-    match overdue {
-        Some(count) => print!(rt; " {}", count.number())?,
-        None => print!(rt; " -")?,
-    }
-    match shared {
-        Some(nodes) => println!(rt; " {}", nodes.sum()),
-        None => println!(rt; " -"),
-    }
+    let overdue = Worth(overdue.map(|count| u64::from(count.number())));
+    let shared = Worth(shared.map(|nodes| nodes.sum()));
+    println!(rt; "  {rule} on {tape}: {verdict} {overdue} {shared}")
 }
 
 pub(crate) fn show_judged(rt: &HostRuntime) -> anyhow::Result<()> {

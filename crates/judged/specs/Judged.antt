@@ -9,8 +9,8 @@ use Rattle.tallies.specs.Overdue.{overdue_number}
 use Rattle.tallies.specs.Measures.{with_none}
 use Rattle.tallies.specs.Shared.{shared_sum}
 use Rattle.tallies.specs.Verdicts.{says}
-use Rattle.tallies.specs.contracts.overdue.measure.CountMeasure.TheImpl as count
-use Rattle.tallies.specs.contracts.shared.measure.NodeSetMeasure.TheImpl as node_set
+use Rattle.tallies.specs.contracts.overdue.CountMeasure.TheImpl as count
+use Rattle.tallies.specs.contracts.shared.NodeSetMeasure.TheImpl as node_set
 use Rattle.tallies.specs.contracts.verdict.VerdictTally.TheImpl as verdict
 use Rattle.temporal.specs.Formula.{Formula}
 use Rattle.temporal.specs.Holds.{Answers}
@@ -37,20 +37,38 @@ told answers s atom = said (answers s atom)
 abbrev tape_of : List HeapRecord → List Counts
 tape_of records = map counted (map (told (heap.ghosts).answers) records)
 
+module _ (records : List HeapRecord) (f : Formula) where
+  -- what the accepting runs come to
+  abbrev pub verdict_of : Bool
+  verdict_of = says (joint (verdict.ghosts).worths (runs (tape_of records) f))
+
+  abbrev pub overdue_of : Option ℕ
+  overdue_of = overdue_number (joint (with_none (count.ghosts).measures) (runs (tape_of records) f))
+
+  abbrev pub shared_of : Option ℕ
+  shared_of = shared_sum (joint (with_none (node_set.ghosts).measures) (runs (tape_of records) f))
+
+  -- whether the formula is kept, or broken, once the records are noted
+  abbrev pub kept_by : Bool
+  kept_by = suffices f (reverse (tape_of records)) nothing
+
+  abbrev pub broken_by : Bool
+  broken_by = not (suffices f (reverse (tape_of records)) everything)
+
 -- the text spells a formula, and this is what the accepting runs come to
 pub record Row (text : List ℕ) (records : List HeapRecord) (yes_or_no : Bool) (overdue shared : Option ℕ) : Type 0 where
   pub formula : Formula
   pub spelled : Spells (heap.ghosts).words text formula
-  pub verdict_is : says (joint (verdict.ghosts).worths (runs (tape_of records) formula)) ≡ yes_or_no
-  pub overdue_is : overdue_number (joint (with_none (count.ghosts).measures) (runs (tape_of records) formula)) ≡ overdue
-  pub shared_is : shared_sum (joint (with_none (node_set.ghosts).measures) (runs (tape_of records) formula)) ≡ shared
+  pub verdict_is : verdict_of records formula ≡ yes_or_no
+  pub overdue_is : overdue_of records formula ≡ overdue
+  pub shared_is : shared_of records formula ≡ shared
 
 -- the text spells a formula, and once these records are noted it is kept, or broken, or neither
 pub record Standing (text : List ℕ) (records : List HeapRecord) (kept broken : Bool) : Type 0 where
   pub formula : Formula
   pub spelled : Spells (heap.ghosts).words text formula
-  pub kept_is : suffices formula (reverse (tape_of records)) nothing ≡ kept
-  pub broken_is : not (suffices formula (reverse (tape_of records)) everything) ≡ broken
+  pub kept_is : kept_by records formula ≡ kept
+  pub broken_is : broken_by records formula ≡ broken
 
 abbrev refusals_answered : List ℕ
 refusals_answered = codes "always (refused implies eventually dispensed)"

@@ -1,31 +1,18 @@
 // What each operator acts as, and which are accepting.
 use temporal::operators::{Binary, Form, Unary};
 
-// A form's name.
-fn name(form: Form) -> &'static str {
-    match form {
-        Form::And => "and",
-        Form::Or => "or",
-        Form::Next => "next",
-        Form::Always => "always",
-        Form::Eventually => "eventually",
-        Form::Until => "until",
-        Form::Release => "release",
-    }
-}
-
 #[test]
 fn operators_before_one_formula(rt: HostRuntime) {
     let rows = [
-        (Unary::Next, false, "next", false),
-        (Unary::Next, true, "next", true),
-        (Unary::Always, false, "always", true),
-        (Unary::Always, true, "eventually", false),
-        (Unary::Eventually, false, "eventually", false),
-        (Unary::Eventually, true, "always", true),
+        (Unary::Next, false, Form::Next, false),
+        (Unary::Next, true, Form::Next, true),
+        (Unary::Always, false, Form::Always, true),
+        (Unary::Always, true, Form::Eventually, false),
+        (Unary::Eventually, false, Form::Eventually, false),
+        (Unary::Eventually, true, Form::Always, true),
     ];
     for (operator, negative, form, accepting) in rows {
-        assert_eq!(rt; name(operator.form(negative)), form);
+        assert_eq!(rt; operator.form(negative), form);
         assert_eq!(rt; operator.accepting(negative), accepting);
     }
 }
@@ -33,15 +20,15 @@ fn operators_before_one_formula(rt: HostRuntime) {
 #[test]
 fn operators_between_two_formulas(rt: HostRuntime) {
     let rows = [
-        (Binary::And, ("and", "or"), false, false),
-        (Binary::Or, ("or", "and"), false, false),
-        (Binary::Implies, ("or", "and"), true, false),
-        (Binary::Until, ("until", "release"), false, true),
-        (Binary::Unless, ("until", "release"), false, true),
+        (Binary::And, (Form::And, Form::Or), false, false),
+        (Binary::Or, (Form::Or, Form::And), false, false),
+        (Binary::Implies, (Form::Or, Form::And), true, false),
+        (Binary::Until, (Form::Until, Form::Release), false, true),
+        (Binary::Unless, (Form::Until, Form::Release), false, true),
     ];
     for (operator, (positive, negative), turns_left, waits) in rows {
-        assert_eq!(rt; name(operator.form(false)), positive);
-        assert_eq!(rt; name(operator.form(true)), negative);
+        assert_eq!(rt; operator.form(false), positive);
+        assert_eq!(rt; operator.form(true), negative);
         assert_eq!(rt; operator.left_negative(false), turns_left);
         assert_eq!(rt; operator.left_negative(true), !turns_left);
         assert_eq!(rt; operator.waits(), waits);

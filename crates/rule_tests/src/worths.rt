@@ -20,17 +20,7 @@ fn only(node: usize) -> Shared {
 }
 
 fn sum(set: Shared) -> Option<u64> {
-    match set {
-        Some(nodes) => Some(nodes.sum()),
-        None => None,
-    }
-}
-
-fn contains(set: Shared, node: usize) -> bool {
-    match set {
-        Some(nodes) => nodes.contains(node),
-        None => false,
-    }
+    set.map(|nodes| nodes.sum())
 }
 
 #[test]
@@ -84,12 +74,12 @@ fn none_joins_neutrally_and_combines_to_none(rt: HostRuntime) {
         assert_eq!(rt; x.combine(Overdue::unit()), x);
     }
     for set in [None, Shared::unit(), only(0), only(63)] {
-        assert_eq!(rt; sum(Shared::none().join(set)), sum(set));
-        assert_eq!(rt; sum(set.join(None)), sum(set));
-        assert_eq!(rt; sum(Shared::none().combine(set)), None);
-        assert_eq!(rt; sum(set.combine(None)), None);
-        assert_eq!(rt; sum(Shared::unit().combine(set)), sum(set));
-        assert_eq!(rt; sum(set.combine(Shared::unit())), sum(set));
+        assert_eq!(rt; Shared::none().join(set), set);
+        assert_eq!(rt; set.join(None), set);
+        assert_eq!(rt; Shared::none().combine(set), None);
+        assert_eq!(rt; set.combine(None), None);
+        assert_eq!(rt; Shared::unit().combine(set), set);
+        assert_eq!(rt; set.combine(Shared::unit()), set);
     }
 }
 
@@ -109,7 +99,10 @@ fn a_visit_weighs_its_own_node(rt: HostRuntime) {
     for node in [0, 1, 62, 63] {
         let set = Shared::weight(visit(node, false));
         for other in [0, 1, 62, 63, 64, usize::MAX] {
-            assert_eq!(rt; contains(set, other), other == node);
+            assert_eq!(rt;
+                set.is_some_and(|nodes| nodes.contains(other)),
+                other == node
+            );
         }
     }
     assert_eq!(rt; sum(only(62)), Some(4_611_686_018_427_387_904));

@@ -1,3 +1,4 @@
+pub mod Joint
 pub mod Telling
 pub mod Least
 pub mod Common

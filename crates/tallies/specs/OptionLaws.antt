@@ -1,6 +1,7 @@
 -- With none added, the laws of measures are the laws of a tally.
-use Rattle.std.specs.Prelude.{◌≡◌, ℕ, Some, None, Option, refl}
-use Rattle.std.proofs.Common.{ap, arith}
+use Rattle.std.specs.Prelude.{◌≡◌, Some, None, Option, is_some, refl}
+use Rattle.std.proofs.Common.{ap}
+use Rattle.std.proofs.lemmas.Bool.{false≢true}
 use Rattle.temporal.specs.Tallies.{Laws}
 use Rattle.tallies.specs.Measures.{MeasureLaws, Measures, both, either, with_none}
 
@@ -58,5 +59,5 @@ module _ {X : Type 0} {m : Measures X} (laws : MeasureLaws m) where
     combined_none = both_none;
     combined_joined = both_either;
     joined_combined = either_both;
-    none_is_not_unit = λ e. let z : ◌≡◌ {A = ℕ} 0 1 = cc in omega arith;
+    none_is_not_unit = λ e. false≢true (ap is_some e);
   }

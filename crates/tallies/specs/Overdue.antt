@@ -1,16 +1,14 @@
 -- Capped numbers of visits, as measures of runs; and the overdue tally, whose worth is a number, if there is one.
-use Rattle.std.specs.Prelude.{ℕ, ◌+◌, ◌≤◌, min, cond, Some, None, Option, nat_le}
-use Rattle.std.proofs.Common.{arith}
+use Rattle.std.specs.Prelude.{ℕ, ◌+◌, min, cond, Option, nat_le}
+use Rattle.std.specs.Option.{option_map}
+use Rattle.std.proofs.Math.Nat.{min-le_right}
 use Rattle.temporal.specs.Tallies.{Worths}
 use Rattle.tallies.specs.Limits.{cap}
 use Rattle.tallies.specs.Measures.{Measures, with_none}
 use Rattle.tallies.specs.declared.overdue.Count.{Count}
 
-pub within_cap : (n : ℕ) → min n cap ≤ cap
-within_cap n = omega arith
-
 abbrev pub capped : ℕ → Count
-capped n = record { number = min n cap; small = within_cap n }
+capped n = record { number = min n cap; small = min-le_right n cap }
 
 abbrev pub smaller : Count → Count → Count
 smaller x y = cond (nat_le x.number y.number) x y
@@ -28,5 +26,4 @@ abbrev pub overdues : Worths (Option Count)
 overdues = with_none counts
 
 abbrev pub overdue_number : Option Count → Option ℕ
-overdue_number None = None
-overdue_number (Some x) = Some x.number
+overdue_number = option_map (λ x. x.number)

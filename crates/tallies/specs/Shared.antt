@@ -1,6 +1,8 @@
 -- Sets of nodes, by the bits of a number, as measures of runs; and the tally of shared nodes, whose worth is a sum of powers
 -- of two, if there is one.
-use Rattle.std.specs.Prelude.{ℕ, zero, suc, ◌+◌, ◌/◌, ◌%◌, ◌^◌, Bool, cond, Some, None, Option, ◌==◌, bit_and, bit_or, nat_lt}
+use Rattle.std.specs.Prelude.{ℕ, zero, suc, ◌+◌, ◌^◌, Bool, cond, Option, ◌==◌, bit_and, bit_or, nat_lt}
+use Rattle.std.specs.Int.{bit_at}
+use Rattle.std.specs.Option.{option_map}
 use Rattle.temporal.specs.Tallies.{Worths}
 use Rattle.tallies.specs.Limits.{most_nodes}
 use Rattle.tallies.specs.Measures.{Measures, with_none}
@@ -11,10 +13,10 @@ of_bits n = record { bits = n }
 
 -- whether a node is in a set
 abbrev pub has : NodeSet → ℕ → Bool
-has s k = s.bits / 2 ^ k % 2 == 1
+has s k = bit_at s.bits k == 1
 
 -- the sum of 2 to the power of each number below n that passes a test; shut, since with a numeral it would compute to a
--- sum of as many parts: `power_sum_is` is its law
+-- sum of as many parts: `SetsOfNodes.summed` is its law
 unfoldable pub power_sum : (ℕ → Bool) → ℕ → ℕ
 power_sum test zero = 0
 power_sum test (suc k) = cond (test k) (2 ^ k) 0 + power_sum test k
@@ -32,5 +34,4 @@ abbrev pub shares : Worths (Option NodeSet)
 shares = with_none node_sets
 
 abbrev pub shared_sum : Option NodeSet → Option ℕ
-shared_sum None = None
-shared_sum (Some x) = Some (power_sum (has x) most_nodes)
+shared_sum = option_map (λ x. power_sum (has x) most_nodes)

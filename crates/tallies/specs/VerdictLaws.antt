@@ -1,8 +1,9 @@
 -- Verdicts keep the laws of a tally.
-use Rattle.std.specs.Prelude.{◌≡◌, ℕ, refl}
-use Rattle.std.proofs.Common.{arith}
+use Rattle.std.specs.Prelude.{◌≡◌, refl}
+use Rattle.std.proofs.Common.{ap}
+use Rattle.std.proofs.lemmas.Bool.{false≢true}
 use Rattle.temporal.specs.Tallies.{Laws}
-use Rattle.tallies.specs.Verdicts.{both, either, verdicts}
+use Rattle.tallies.specs.Verdicts.{both, either, says, verdicts}
 use Rattle.tallies.specs.declared.verdict.Verdict.{Verdict}
 use Rattle.tallies.specs.declared.verdict.Verdict.TheVariants.{No, Yes}
 
@@ -30,5 +31,5 @@ verdict_laws = record {
   combined_none = each (λ v. both v No ≡ No) refl refl;
   combined_joined = λ x y z. each (λ v. both v (either y z) ≡ either (both v y) (both v z)) refl refl x;
   joined_combined = either_both;
-  none_is_not_unit = λ e. let z : ◌≡◌ {A = ℕ} 0 1 = cc in omega arith;
+  none_is_not_unit = λ e. false≢true (ap says e);
 }

@@ -9,8 +9,6 @@ use temporal::visits::Visit;
 pub trait Measure: Copy {
     ghost measures: { Measures Self };
 
-    ghost laws: { MeasureLaws measures };
-
     fn unit() -> Self
         ensures { result ≡ measures.unit };
 
@@ -22,6 +20,8 @@ pub trait Measure: Copy {
 
     fn weight(visit: Visit) -> Self
         ensures { result ≡ measures.weighs visit };
+
+    ghost laws: { MeasureLaws measures };
 }
 
 // Any measure, with none added, is a tally.
@@ -41,16 +41,12 @@ impl<X: Measure> Tally for Option<X> {
     fn join(self, other: Option<X>) -> Option<X> {
         match (self, other) {
             (Some(x), Some(y)) => Some(x.join(y)),
-            (Some(x), None) => Some(x),
-            (None, y) => y,
+            (alone, None) | (None, alone) => alone,
         }
     }
 
     fn combine(self, other: Option<X>) -> Option<X> {
-        match (self, other) {
-            (Some(x), Some(y)) => Some(x.combine(y)),
-            _ => None,
-        }
+        Some(self?.combine(other?))
     }
 
     fn weight(visit: Visit) -> Option<X> {

@@ -1,8 +1,10 @@
 ghost use Rattle.std.specs.Prelude.{◌≡◌, ◌&&◌, nat_lt};
 ghost use Rattle.tallies.specs.Limits.{most_nodes};
-ghost use Rattle.tallies.specs.Shared.{has};
+ghost use Rattle.tallies.specs.Shared.{has, node_sets};
+ghost use Rattle.tallies.specs.SharedLaws.{node_set_laws};
 
-mod measure;
+use crate::measure::Measure;
+use temporal::visits::Visit;
 
 // The nodes that every run visits; none without a run.
 pub type Shared = Option<NodeSet>;
@@ -29,5 +31,37 @@ impl NodeSet {
         ensures { result ≡ self.now.bits }
     {
         self.bits
+    }
+}
+
+// Joining intersects, combining unites; a visit weighs its own node.
+impl Measure for NodeSet {
+    ghost measures = { node_sets };
+
+    ghost laws = { node_set_laws };
+
+    fn unit() -> NodeSet {
+        NodeSet { bits: 0 }
+    }
+
+    fn join(self, other: NodeSet) -> NodeSet {
+        NodeSet {
+            bits: self.bits & other.bits,
+        }
+    }
+
+    fn combine(self, other: NodeSet) -> NodeSet {
+        NodeSet {
+            bits: self.bits | other.bits,
+        }
+    }
+
+    fn weight(visit: Visit) -> NodeSet {
+        let bits = if visit.node < Self::MOST_NODES {
+            1 << visit.node
+        } else {
+            0
+        };
+        NodeSet { bits }
     }
 }

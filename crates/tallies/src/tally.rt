@@ -9,8 +9,6 @@ pub trait Tally: Copy {
     // None, unit, joining, combining and weights, as they are meant.
     ghost worths: { Worths Self };
 
-    ghost laws: { Laws worths };
-
     fn none() -> Self
         ensures { result ≡ worths.none };
 
@@ -25,4 +23,6 @@ pub trait Tally: Copy {
 
     fn weight(visit: Visit) -> Self
         ensures { result ≡ worths.weighs visit };
+
+    ghost laws: { Laws worths };
 }

@@ -1,8 +1,9 @@
-ghost use Rattle.std.specs.Prelude.{◌≡◌};
+ghost use Rattle.std.specs.Prelude.{◌≡◌, Some};
 ghost use Rattle.tallies.specs.Verdicts.{verdict_text, verdicts};
 ghost use Rattle.tallies.specs.VerdictLaws.{verdict_laws};
 
 use crate::tally::Tally;
+use std::fmt;
 use temporal::visits::Visit;
 
 // Whether a tape has an accepting run.
@@ -21,6 +22,14 @@ impl Verdict {
             Verdict::No => "no",
             Verdict::Yes => "yes",
         }
+    }
+}
+
+impl fmt::Display for Verdict {
+    ghost output = { λ v. Some (verdict_text v) };
+
+    fn fmt<W: fmt::Write>(&self, f: &mut fmt::Formatter<W>) -> fmt::Result {
+        f.write_str(self.as_str())
     }
 }
 

@@ -1,7 +1,8 @@
 -- What the sets that suffice tell: the end, and that kept and broken never turn.
-use Rattle.std.proofs.Common.{◌≡◌, ℕ, Bool, true, false, cond, ◌&&◌, ◌||◌, List, [], ◌∷◌, ◌++◌, reverse, sym, refl, ap, ◌∙◌, ap₂, true≢false}
-use mathlib.Core.Bool.{false≢true}
-use mathlib.Core.List.{reverse_aux}
+use Rattle.std.proofs.Common.{◌≡◌, ℕ, Bool, true, false, ◌&&◌, ◌||◌, List, [], ◌∷◌, ◌++◌, reverse, sym, refl, ap, ◌∙◌, ap₂, true≢false}
+use mathlib.Core.List.{reverse_aux, reverse_aux-eq}
+use Rattle.std.proofs.lemmas.Bool.{cond_both, false_from_ne_true, false≢true}
+use Rattle.std.proofs.lemmas.List.{reverse-append}
 use Rattle.temporal.specs.Formula.{Formula}
 use Rattle.temporal.specs.Forms.{accepts}
 use Rattle.temporal.specs.Reading.{Counts, awaited, reading, waiting_part}
@@ -22,13 +23,9 @@ suffices_before f (s ∷ tape) noted v = suffices_before f tape (s ∷ noted) v
 keeps_equal : Keeps truths truths (λ x y. x ≡ y)
 keeps_equal = record { none = refl; joined = λ x u y v p q. ap₂ ◌||◌ p q; combined = λ x u y v p q. ap₂ ◌&&◌ p q; weighs = λ v. refl }
 
-cond_itself : (t : Bool) → t ≡ cond t true false
-cond_itself true = refl
-cond_itself false = refl
-
 -- before a tape, the accepting operators ask for the waiting parts that a reading of the tape finds true
 waits_reading : (f : Formula) (later : List Counts) (n : Bool) (b : ℕ) (g : Formula) → (before f later accepting_operators).waits n b g ≡ waiting_part truths later (reading truths later) n b g
-waits_reading f [] n b g = cond_itself (accepts n g)
+waits_reading f [] n b g = cond_both (accepts n g) true false (λ t. accepts n g ≡ t) (λ e. e) (λ e. e)
 waits_reading f (t ∷ later) n b g = related_here _ keeps_equal (waits_reading f later) t n b (awaited g)
 
 pub end_is_reading : (tape : List Counts) (f : Formula) → suffices f (reverse tape) accepting_operators ≡ reading truths tape false 0 f
@@ -71,14 +68,10 @@ nothing_within v = record { start = λ e. absurd (false≢true e); waits = λ n 
 within_everything : (v : Marks) → Within v everything
 within_everything v = record { start = λ e. refl; waits = λ n b g e. refl }
 
--- once more states are noted, a set suffices if the set before them did
-reverse-++ : (tape more noted : List Counts) → reverse_aux (tape ++ more) noted ≡ reverse_aux more (reverse_aux tape noted)
-reverse-++ [] more noted = refl
-reverse-++ (s ∷ tape) more noted = reverse-++ tape more (s ∷ noted)
-
 module _ (tape more : List Counts) (f : Formula) where
+  -- once more states are noted, a set suffices if the set before them did
   suffices_more : (v : Marks) → suffices f (reverse (tape ++ more)) v ≡ suffices f (reverse tape) (before f more v)
-  suffices_more v = ap (λ noted. suffices f noted v) (reverse-++ tape more []) ∙ suffices_before f more (reverse tape) v
+  suffices_more v = ap (λ noted. suffices f noted v) (reverse-append tape more ∙ sym (reverse_aux-eq more (reverse tape))) ∙ suffices_before f more (reverse tape) v
 
   -- once the empty set suffices every set does, and once the full set does not none does
   kept_later : Kept tape f → (v : Marks) → suffices f (reverse (tape ++ more)) v ≡ true
@@ -87,15 +80,11 @@ module _ (tape more : List Counts) (f : Formula) where
   broken_later : Broken tape f → (v : Marks) → suffices f (reverse (tape ++ more)) v ≡ true → ⊥
   broken_later broken v e = true≢false (sym (sets_grow f (reverse tape) (before f more v) everything (within_everything _) (sym (suffices_more v) ∙ e)) ∙ broken)
 
-not_true : (x : Bool) → (x ≡ true → ⊥) → x ≡ false
-not_true true h = absurd (h refl)
-not_true false h = refl
-
 pub settled_never_turns : SettledNeverTurns
 settled_never_turns tape f = record {
   kept_stays = λ more kept. kept_later tape more f kept nothing;
   kept_ends_in_yes = λ more kept. (end_is_verdict (tape ++ more) f).0 (kept_later tape more f kept accepting_operators);
-  broken_stays = λ more broken. not_true _ (broken_later tape more f broken everything);
+  broken_stays = λ more broken. false_from_ne_true _ (broken_later tape more f broken everything);
   broken_ends_in_no = λ more broken a. broken_later tape more f broken accepting_operators ((end_is_verdict (tape ++ more) f).1 a);
   not_both = λ kept broken. true≢false (sym (sets_grow f (reverse tape) nothing everything (nothing_within everything) kept) ∙ broken);
 }

@@ -8,6 +8,7 @@ use mathlib.Core.List.Memᴰ.{map as in_map}
 use mathlib.Core.List.Memᴰ.{tail as in_tail}
 use mathlib.Core.List.{Memᴰ as In}
 use Rattle.std.specs.List.{ContainsAt, AllByRecursion}
+use Rattle.std.proofs.lemmas.Bool.{cond_both}
 use Rattle.std.proofs.ByRecursion.{All-append, All-map, All-weaker, all-has}
 use Rattle.temporal.specs.Accepts.{Alone, alone, Onward, onward, Formed, and, or_left, or_right, next, always, eventually_later, eventually_now, until_now, until_later, release_later, release_now, Accepts, AcceptsHere, AcceptsFrom, Waits}
 use Rattle.temporal.specs.Formula.{Formula, atom, negation, unary, binary, nodes}
@@ -77,8 +78,7 @@ module _ {W X Y : Run → Type 0} {ws xs ys : List Run} (ew : Exact W ws) (ex : 
 
 -- a visit alone, if a test says so
 sound_alone : (k : ℕ) (test : Bool) → AllByRecursion (Alone k test) (cond test ((visit k true ∷ []) ∷ []) [])
-sound_alone k true = (alone refl, tt)
-sound_alone k false = tt
+sound_alone k test = cond_both test _ _ (AllByRecursion (Alone k test)) (λ e. (alone e, tt)) (λ e. tt)
 
 complete_alone : {k : ℕ} {test : Bool} {r : Run} → Alone k test r → In r (cond test ((visit k true ∷ []) ∷ []) [])
 complete_alone (alone e) = rw e (in_head refl)

@@ -2,7 +2,6 @@ pub mod Related
 pub mod Worth
 pub mod Exact
 pub mod Once
-pub mod Listed
 pub mod OfNodes
 pub mod Truth
 pub mod Meaning

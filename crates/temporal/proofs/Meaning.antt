@@ -1,6 +1,6 @@
 -- What the runs tell is what holds: position by position from the last one back, for both signs at once.
 use Rattle.std.proofs.Common.{◌≡◌, ℕ, ◌+◌, ◌<◌, ◌≤◌, Bool, true, false, cond, not, ◌&&◌, ◌||◌, ◌⊎◌, ◌↔◌, List, [], ◌∷◌, map, length, get_or, drop, refl, ap, subst, inl, inr, ⊎_elim, eq-or-lt_of_le, arith, length-drop}
-use mathlib.Core.Bool.{false≢true}
+use Rattle.std.proofs.lemmas.Bool.{false≢true}
 use Rattle.std.proofs.lemmas.List.{drop_more}
 use Rattle.temporal.specs.Formula.{Formula, atom, negation, unary, binary, nodes}
 use Rattle.temporal.specs.Holds.{Answers, Holds, Throughout, Somewhere, Reached}

@@ -1,6 +1,6 @@
 -- The nodes in order have the numbers from the first on, without a gap.
 use Rattle.std.proofs.Common.{◌≡◌, ℕ, zero, suc, ◌+◌, Bool, false, not, List, [], ◌∷◌, ◌++◌, map, ap, ◌∙◌, ap₂, arith}
-use mathlib.Core.List.{map-append}
+use Rattle.std.proofs.lemmas.List.{map-append}
 use Rattle.std.specs.List.{range_with_len}
 use Rattle.temporal.specs.Formula.{Formula, atom, negation, unary, binary, nodes}
 use Rattle.temporal.specs.Forms.{left_sign}

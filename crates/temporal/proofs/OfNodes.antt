@@ -1,6 +1,7 @@
 -- Every visit of an accepting run is the visit of one of the rule's nodes.
 use Rattle.std.proofs.Common.{◌≡◌, ℕ, ◌+◌, Bool, true, false, cond, not, List, [], ◌∷◌, ◌++◌, map, sym, refl, ap, subst, arith}
-use mathlib.Core.List.{map-append}
+use Rattle.std.proofs.lemmas.Bool.{cond_both}
+use Rattle.std.proofs.lemmas.List.{map-append}
 use Rattle.std.specs.List.{ContainsAt, AllByRecursion}
 use Rattle.std.proofs.ByRecursion.{All-append, all-has, All-weaker, has_append_left, has_append_right}
 use Rattle.temporal.specs.Formula.{Formula, atom, negation, unary, binary, nodes}
@@ -69,8 +70,7 @@ module _ (P : Visit → Type 0) (ws xs ys : List Run) (pw : AllByRecursion (AllB
   of_formed form.Release = of_both P ys (ws ++ xs) py (All-append _ ws xs pw px)
 
 of_alone : (n : Bool) (b : ℕ) (f : Formula) (k : ℕ) (allowed : Bool) → (allowed ≡ true → ContainsAt (visits n b f) (visit k true)) → Of n b f (cond allowed ((visit k true ∷ []) ∷ []) [])
-of_alone n b f k true h = ((h refl, tt), tt)
-of_alone n b f k false h = tt
+of_alone n b f k allowed h = cond_both allowed _ _ (Of n b f) (λ e. ((h e, tt), tt)) (λ e. tt)
 
 -- one state, and then the tape from its last state back
 module _ (waiting : Bool → ℕ → Formula → List Run) where

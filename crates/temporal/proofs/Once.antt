@@ -1,8 +1,9 @@
 -- No run is listed twice. The runs of a formula at one state are a prefix code: none begins another, since where the
 -- formula leaves a choice, the nodes that may be visited first lie apart.
 use Rattle.std.proofs.Common.{◌≡◌, ℕ, zero, suc, ◌+◌, ◌<◌, ◌≤◌, Bool, true, false, cond, not, List, [], ◌∷◌, ◌++◌, map, length, get_or, sym, refl, ap, append_assoc, arith}
-use mathlib.Core.Bool.{false≢true}
-use mathlib.Core.List.{append_cancel_left, head-eq_of_cons-eq}
+use mathlib.Core.List.{head-eq_of_cons-eq}
+use Rattle.std.proofs.lemmas.Bool.{cond_both, false≢true}
+use Rattle.std.proofs.lemmas.List.{append_cancel_left}
 use Rattle.std.specs.List.{AllByRecursion}
 use Rattle.std.proofs.ByRecursion.{All-append, All-map, All-weaker, all_has_itself, All-get_or}
 use Rattle.temporal.specs.Formula.{Formula, atom, negation, unary, binary, nodes}
@@ -89,8 +90,7 @@ coded_visit : (k : ℕ) (a : Bool) → Coded k (k + 1) ((visit k a ∷ []) ∷ [
 coded_visit k a = record { code = (tt, tt); begins = (begin (omega arith) (omega arith), tt) }
 
 coded_alone : (k : ℕ) (test : Bool) → Coded k (k + 1) (cond test ((visit k true ∷ []) ∷ []) [])
-coded_alone k true = coded_visit k true
-coded_alone k false = coded_none
+coded_alone k test = cond_both test _ _ (Coded k (k + 1)) (λ e. coded_visit k true) (λ e. coded_none)
 
 coded_wider : {l h lo hi : ℕ} {rs : List Run} → Inside l h lo hi → Coded l h rs → Coded lo hi rs
 coded_wider {rs = rs} i c = record { code = c.code; begins = All-weaker _ _ (begins_wider i) rs c.begins }

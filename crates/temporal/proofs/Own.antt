@@ -1,6 +1,7 @@
 -- Sets that agree on the rule's own waiting operators suffice alike.
 use Rattle.std.proofs.Common.{◌≡◌, ℕ, ◌+◌, Bool, true, false, cond, not, List, [], ◌∷◌, ◌++◌, filter, sym, refl, ◌∙◌, subst, true≢false}
 use Rattle.std.specs.List.{AllByRecursion}
+use Rattle.std.proofs.lemmas.Bool.{cond_both}
 use Rattle.std.proofs.lemmas.List.Elements.{filter-append}
 use Rattle.std.proofs.ByRecursion.{All-append}
 use Rattle.temporal.specs.Formula.{Formula, atom, negation, unary, binary, nodes}
@@ -76,10 +77,6 @@ awaited_same s v w n b Next f h = given_same s v w n b f (split (Same v w) (in_o
 awaited_same s v w n b Always f h = given_same s v w n b (unary Always f) h
 awaited_same s v w n b Eventually f h = given_same s v w n b (unary Eventually f) h
 
-if_waits : (P : Node → Type 0) (t : Bool) (x : Node) → P x → AllByRecursion P (cond t (x ∷ []) [])
-if_waits P true x p = (p, tt)
-if_waits P false x p = tt
-
 earlier_agrees : (g : Formula) (s : Counts) (v w : Marks) (n : Bool) (b : ℕ) (f : Formula) → Agree v w n b f → Agree (earlier g s v) (earlier g s w) n b f
 earlier_agrees e s v w n b (atom a) h = tt
 earlier_agrees e s v w n b (negation f) h = earlier_agrees e s v w (not n) b f h
@@ -89,7 +86,7 @@ earlier_agrees e s v w n b (binary o f g) h =
     let (left, rest) = split (Same v w) (in_order (left_sign o n) b f) _ h in
     let (right, own) = split (Same v w) (in_order n (b + nodes f) g) (node n b (binary o f g) ∷ []) rest in
     joined (Same (earlier e s v) (earlier e s w)) (in_order (left_sign o n) b f) _ (earlier_agrees e s v w (left_sign o n) b f left)
-    (joined (Same (earlier e s v) (earlier e s w)) (in_order n (b + nodes f) g) _ (earlier_agrees e s v w n (b + nodes f) g right) (if_waits _ (binary_waits o) _ (given_same s v w n b (binary o f g) h)))
+    (joined (Same (earlier e s v) (earlier e s w)) (in_order n (b + nodes f) g) _ (earlier_agrees e s v w n (b + nodes f) g right) (cond_both (binary_waits o) _ _ (AllByRecursion _) (λ e. (given_same s v w n b (binary o f g) h, tt)) (λ e. tt)))
 
 pub own_operators_decide : OwnOperatorsDecide
 own_operators_decide f [] v w start own = start

@@ -2,7 +2,7 @@ ghost use Rattle.std.specs.Prelude.{◌≡◌};
 ghost use Rattle.temporal.specs.Forms.{binary_accepts, binary_form, binary_waits, left_sign, unary_accepts, unary_form};
 
 // The operators before one formula, but for `not`, which makes no node.
-#[derive(Clone, Copy)]
+#[derive(Clone, Copy, PartialEq, Eq, Debug)]
 pub enum Unary {
     Next,
     Always,
@@ -10,7 +10,7 @@ pub enum Unary {
 }
 
 // The operators between two formulas.
-#[derive(Clone, Copy)]
+#[derive(Clone, Copy, PartialEq, Eq, Debug)]
 pub enum Binary {
     And,
     Or,
@@ -20,7 +20,7 @@ pub enum Binary {
 }
 
 // What an operator acts as: how a node is made of its operands and, if it waits, its waiting part.
-#[derive(Clone, Copy)]
+#[derive(Clone, Copy, PartialEq, Eq, Debug)]
 pub enum Form {
     And,
     Or,
