@@ -3,7 +3,7 @@
 use Rattle.std.specs.Prelude.{◌≡◌, ℕ, Bool, true, false, not, List, [], ◌∷◌, map, reverse, Some, None, codes, Option, refl}
 use Rattle.states.specs.Answers.{said}
 use Rattle.states.specs.declared.answer.Answer.{Answer}
-use Rattle.states.specs.contracts.heap.answers.HeapRecordState.TheImpl as heap
+use Rattle.states.specs.contracts.heap.HeapRecordState.TheImpl as heap
 use Rattle.states.specs.declared.heap.HeapRecord.{HeapRecord}
 use Rattle.tallies.specs.Overdue.{overdue_number}
 use Rattle.tallies.specs.Measures.{with_none}

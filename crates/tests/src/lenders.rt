@@ -38,8 +38,5 @@ pub fn note_and_read(bytes: &mut [u8], state: ValveRecord) -> Option<ValveRecord
         return None;
     }
     note_valve(bytes, state);
-    match ValveTape::new(&bytes[0..3]) {
-        Ok(tape) => tape.at(0),
-        Err(_) => None,
-    }
+    ValveTape::new(&bytes[..3]).ok()?.at(0)
 }

@@ -1,7 +1,7 @@
 use Rattle.std.proofs.Common.{ℕ, List, refl}
 use Rattle.judged.proofs.examples_are_judged.Goals as goal
 use Rattle.judged.specs.Judged.{Row, Standing, broken_by, kept_by, overdue_of, shared_of, verdict_of}
-use Rattle.states.specs.contracts.heap.answers.HeapRecordState.TheImpl as heap
+use Rattle.states.specs.contracts.heap.HeapRecordState.TheImpl as heap
 use Rattle.states.specs.declared.heap.HeapRecord.{HeapRecord}
 use Rattle.temporal.specs.Spelling.{Spells}
 use Rattle.tallies.specs.Shared.{power_sum}

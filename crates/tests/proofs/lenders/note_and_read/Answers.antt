@@ -18,25 +18,12 @@ first : (v : ValveRecord) (r : Option ValveRecord) → Found (v ∷ []) 0 r → 
 first v None found = absurd (omega arith)
 first v (Some s) found = ap Some found.1
 
-pub returns-in-Ok : goal.returns-in-Ok
-returns-in-Ok c =
-    let after = c.note_valve.ensures.noted in
-    let read_back = c.in-Ok.ensures.read_back in
-    record {
-      read = λ long.
-          let one = read_back (c.args.state ∷ []) (encodes c.args.bytes.now c.note_valve.new.bytes c.args.state long (after long)) in
-          first c.args.state c.at.result (subst (λ (xs : List ValveRecord). Found xs 0 c.at.result) one c.at.ensures);
-      none = search rules;
-      noted = after;
-      refused = c.note_valve.ensures.refused;
-    }
+pub returns-in_err-ok-clause-read : goal.returns-in_err-ok-clause-read
+returns-in_err-ok-clause-read c long =
+    let one = c.new.ensures.read_back (c.args.state ∷ []) (encodes c.args.bytes.now c.note_valve.new.bytes c.args.state long (c.note_valve.ensures.noted long)) in
+    search rules
 
-pub returns-in-Err : goal.returns-in-Err
-returns-in-Err c =
-    let after = c.note_valve.ensures.noted in
-    record {
-      read = λ long. absurd (c.in-Err.ensures.read_back (c.args.state ∷ []) (encodes c.args.bytes.now c.note_valve.new.bytes c.args.state long (after long)));
-      none = search rules;
-      noted = after;
-      refused = c.note_valve.ensures.refused;
-    }
+pub returns-clause-read : goal.returns-clause-read
+returns-clause-read c long =
+    let one = c.new.ensures.read_back (c.args.state ∷ []) (encodes c.args.bytes.now c.note_valve.new.bytes c.args.state long (c.note_valve.ensures.noted long)) in
+    search (rules, first)
