@@ -56,4 +56,4 @@ abbrev pub By : ℕ → ℕ → Refusal → Type 0
 By n place e = (number e.cause ≡ n) × (e.place ≡ place)
 
 abbrev pub line : ℕ → ℕ → Part → List ℕ
-line n place p = codes "refused " ++ (decimal n ++ (codes " at " ++ (decimal place ++ (codes " in " ++ part_text p))))
+line n place p = codes "refused " ++ decimal n ++ codes " at " ++ decimal place ++ codes " in " ++ part_text p

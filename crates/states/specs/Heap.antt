@@ -5,7 +5,7 @@ use Rattle.states.specs.declared.heap.HeapRecord.{HeapRecord}
 
 -- the four numbers, with a slash between neighbours
 abbrev pub heap_text : HeapRecord → List ℕ
-heap_text h = decimal h.free ++ (codes "/" ++ (decimal h.largest ++ (codes "/" ++ (decimal h.wanted ++ (codes "/" ++ decimal h.outcome)))))
+heap_text h = decimal h.free ++ codes "/" ++ decimal h.largest ++ codes "/" ++ decimal h.wanted ++ codes "/" ++ decimal h.outcome
 
 abbrev pub asked : HeapRecord → Bool
 asked h = nat_lt 0 h.wanted
@@ -25,7 +25,7 @@ dispensed h = h.outcome == 1
 abbrev pub heap_atoms : List (Atom HeapRecord)
 heap_atoms =
     record { word = codes "asked"; means = asked }
-    ∷ (record { word = codes "enough"; means = enough }
-    ∷ (record { word = codes "fits"; means = fits }
-    ∷ (record { word = codes "refused"; means = refused }
-    ∷ (record { word = codes "dispensed"; means = dispensed } ∷ []))))
+    ∷ record { word = codes "enough"; means = enough }
+    ∷ record { word = codes "fits"; means = fits }
+    ∷ record { word = codes "refused"; means = refused }
+    ∷ record { word = codes "dispensed"; means = dispensed } ∷ []

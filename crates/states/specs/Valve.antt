@@ -7,7 +7,7 @@ use Rattle.states.specs.declared.valve.ValveRecord.{ValveRecord}
 
 -- the valve bits, high byte first, then the pump
 abbrev pub encoded : ValveRecord → List ℕ
-encoded v = (v.bits / 256) ∷ ((v.bits % 256) ∷ (v.pump ∷ []))
+encoded v = (v.bits / 256) ∷ (v.bits % 256) ∷ v.pump ∷ []
 
 -- three bytes are those of the record that they are read as, or else refused: the pump byte exceeds 1
 abbrev pub Decodes : List ℕ → Result ValveRecord Refusal → Type 0
@@ -21,4 +21,4 @@ abbrev pub some_open : ValveRecord → Bool
 some_open v = nat_lt 0 v.bits
 
 abbrev pub valve_atoms : List (Atom ValveRecord)
-valve_atoms = record { word = codes "pumping"; means = pumping } ∷ (record { word = codes "open"; means = some_open } ∷ [])
+valve_atoms = record { word = codes "pumping"; means = pumping } ∷ record { word = codes "open"; means = some_open } ∷ []

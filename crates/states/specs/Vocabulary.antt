@@ -6,7 +6,7 @@ abbrev pub letter : ℕ → Bool
 letter c = nat_le 97 c && nat_le c 122
 
 abbrev pub operators : List (List ℕ)
-operators = codes "not" ∷ (codes "next" ∷ (codes "always" ∷ (codes "eventually" ∷ (codes "and" ∷ (codes "or" ∷ (codes "implies" ∷ (codes "until" ∷ (codes "unless" ∷ []))))))))
+operators = codes "not" ∷ codes "next" ∷ codes "always" ∷ codes "eventually" ∷ codes "and" ∷ codes "or" ∷ codes "implies" ∷ codes "until" ∷ codes "unless" ∷ []
 
 abbrev in_range : ℕ → ℕ → ℕ → Bool
 in_range least most n = nat_le least n && nat_le n most
@@ -33,4 +33,4 @@ lawful_vocabulary words = in_range 1 16 (length words) && (all lawful_word words
 abbrev pub listed_words : List (List ℕ) → List ℕ
 listed_words [] = []
 listed_words (w ∷ []) = w
-listed_words (w ∷ (v ∷ vs)) = w ++ (32 ∷ listed_words (v ∷ vs))
+listed_words (w ∷ v ∷ vs) = w ++ 32 ∷ listed_words (v ∷ vs)

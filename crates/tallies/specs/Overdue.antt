@@ -1,5 +1,5 @@
 -- Capped numbers of visits, as measures of runs; and the overdue tally, whose worth is a number, if there is one.
-use Rattle.std.specs.Prelude.{ℕ, ◌+◌, min, cond, Option, nat_le}
+use Rattle.std.specs.Prelude.{ℕ, ◌+◌, min, if◌then◌else◌, Option, nat_le}
 use Rattle.std.specs.Option.{option_map}
 use Rattle.std.proofs.Math.Nat.{min-le_right}
 use Rattle.temporal.specs.Tallies.{Worths}
@@ -11,7 +11,7 @@ abbrev pub capped : ℕ → Count
 capped n = record { number = min n cap; small = min-le_right n cap }
 
 abbrev pub smaller : Count → Count → Count
-smaller x y = cond (nat_le x.number y.number) x y
+smaller x y = if nat_le x.number y.number then x else y
 
 -- joining takes the smaller, combining adds; a rejecting visit weighs 1, any other 0
 abbrev pub counts : Measures Count
@@ -19,7 +19,7 @@ counts = record {
   unit = capped 0;
   joined = smaller;
   combined = λ x y. capped (x.number + y.number);
-  weighs = λ v. capped (cond v.accepting 0 1);
+  weighs = λ v. capped (if v.accepting then 0 else 1);
 }
 
 abbrev pub overdues : Worths (Option Count)

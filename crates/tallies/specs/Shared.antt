@@ -1,6 +1,6 @@
 -- Sets of nodes, by the bits of a number, as measures of runs; and the tally of shared nodes, whose worth is a sum of powers
 -- of two, if there is one.
-use Rattle.std.specs.Prelude.{ℕ, zero, suc, ◌+◌, ◌^◌, Bool, cond, Option, ◌==◌, bit_and, bit_or, nat_lt}
+use Rattle.std.specs.Prelude.{ℕ, zero, suc, ◌+◌, ◌^◌, Bool, if◌then◌else◌, Option, ◌==◌, bit_and, bit_or, nat_lt}
 use Rattle.std.specs.Int.{bit_at}
 use Rattle.std.specs.Option.{option_map}
 use Rattle.temporal.specs.Tallies.{Worths}
@@ -19,7 +19,7 @@ has s k = bit_at s.bits k == 1
 -- sum of as many parts: `SetsOfNodes.summed` is its law
 unfoldable pub power_sum : (ℕ → Bool) → ℕ → ℕ
 power_sum test zero = 0
-power_sum test (suc k) = cond (test k) (2 ^ k) 0 + power_sum test k
+power_sum test (suc k) = (if test k then 2 ^ k else 0) + power_sum test k
 
 -- joining intersects, combining unites; a visit weighs its own node, of those that a rule can have
 abbrev pub node_sets : Measures NodeSet
@@ -27,7 +27,7 @@ node_sets = record {
   unit = of_bits 0;
   joined = λ x y. of_bits (bit_and x.bits y.bits);
   combined = λ x y. of_bits (bit_or x.bits y.bits);
-  weighs = λ v. of_bits (cond (nat_lt v.node most_nodes) (2 ^ v.node) 0);
+  weighs = λ v. of_bits (if nat_lt v.node most_nodes then 2 ^ v.node else 0);
 }
 
 abbrev pub shares : Worths (Option NodeSet)

@@ -1,5 +1,5 @@
 -- The theorems about tallies, each the contract of a public call.
-use Rattle.std.specs.Prelude.{◌≡◌, ℕ, ◌+◌, ◌^◌, ◌<◌, ◌≤◌, min, Bool, true, false, cond, ◌&&◌, ◌||◌, ◌↔◌, List, [], ◌∷◌, Some, None, ◌==◌, nat_lt}
+use Rattle.std.specs.Prelude.{◌≡◌, ℕ, ◌+◌, ◌^◌, ◌<◌, ◌≤◌, min, Bool, true, false, if◌then◌else◌, ◌&&◌, ◌||◌, ◌↔◌, List, [], ◌∷◌, Some, None, ◌==◌, nat_lt}
 use Rattle.temporal.specs.Accepts.{Accepted, Accepts}
 use Rattle.temporal.specs.Formula.{Formula}
 use Rattle.temporal.specs.Reading.{Counts}
@@ -16,7 +16,7 @@ use Rattle.tallies.specs.declared.shared.NodeSet.{NodeSet}
 -- how many of a run's visits are rejecting
 abbrev pub rejecting : Run → ℕ
 rejecting [] = 0
-rejecting (v ∷ run) = cond v.accepting 0 1 + rejecting run
+rejecting (v ∷ run) = (if v.accepting then 0 else 1) + rejecting run
 
 -- whether a run visits a node
 abbrev pub visits : Run → ℕ → Bool

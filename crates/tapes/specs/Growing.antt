@@ -8,7 +8,7 @@ use Rattle.refusals.specs.declared.Refusal.{Refusal}
 module _ {S : Type 0} (capacity : ℕ) (state : S) (before after : List S) where
   pub record Grown : Type 0 where
     pub room : length before ≡ capacity → ⊥
-    pub longer : after ≡ before ++ (state ∷ [])
+    pub longer : after ≡ before ++ state ∷ []
 
   pub record Full (e : Refusal) : Type 0 where
     pub full : length before ≡ capacity

@@ -1,5 +1,5 @@
 -- The accepting runs at one state, operator by operator and in order: what the list comes to, for either sign.
-use Rattle.std.specs.Prelude.{◌≡◌, ℕ, ◌+◌, Bool, true, false, cond, not, List, [], ◌∷◌, ◌++◌, map}
+use Rattle.std.specs.Prelude.{◌≡◌, ℕ, ◌+◌, Bool, true, false, if◌then◌else◌, not, List, [], ◌∷◌, ◌++◌, map}
 use Rattle.temporal.specs.Formula.{Formula, atom, negation, unary, binary, nodes}
 use Rattle.temporal.specs.Forms.{accepts}
 use Rattle.temporal.specs.Nodes.{root}
@@ -46,7 +46,7 @@ module _ (s : Counts) (later : List Counts) (b : ℕ) (f g : Formula) where
 
   pub record ListedInOrder : Type 0 where
     -- the visit of the node, if the state gives the wanted answer
-    pub atoms : (n : Bool) (a : ℕ) → of_atom n a ≡ cond (s n a) ((visit b true ∷ []) ∷ []) []
+    pub atoms : (n : Bool) (a : ℕ) → of_atom n a ≡ (if s n a then (visit b true ∷ []) ∷ [] else [])
     pub nots : (n : Bool) → runs_from (s ∷ later) n b (negation f) ≡ left (not n)
     -- each run of the left, followed by each run of the right
     pub and : of_two positive And ≡ followed (left positive) (right positive)
@@ -73,5 +73,5 @@ module _ (s : Counts) (later : List Counts) (b : ℕ) (f g : Formula) where
 
 -- a waiting part: at the last state the visit alone, if accepting; before it the visit, followed by each run at the next state
 pub record WaitsInOrder (n : Bool) (b : ℕ) (f : Formula) : Type 0 where
-  pub last : waiting [] n b f ≡ cond (accepts n f) ((visit (root b f) true ∷ []) ∷ []) []
+  pub last : waiting [] n b f ≡ (if accepts n f then (visit (root b f) true ∷ []) ∷ [] else [])
   pub before : (t : Counts) (later : List Counts) → waiting (t ∷ later) n b f ≡ map (λ run. visit (root b f) (accepts n f) ∷ run) (runs_from (t ∷ later) n b (awaited f))

@@ -1,6 +1,6 @@
 -- The pieces of a rule text, at their places. A piece is a bracket or a longest run of letters; spaces may stand around
 -- pieces, and any other byte is a piece of its own, which no text may have.
-use Rattle.std.specs.Prelude.{ℕ, ◌+◌, Bool, true, false, cond, List, [], ◌∷◌, ◌==◌}
+use Rattle.std.specs.Prelude.{ℕ, ◌+◌, Bool, true, false, if◌then◌else◌, List, [], ◌∷◌, ◌==◌}
 use Rattle.temporal.specs.Vocabulary.{letter}
 
 pub data Piece : Type 0 where
@@ -36,7 +36,8 @@ longer i c true (p ∷ ps) = put i (word (c ∷ letters p.piece)) ps
 abbrev pub pieces_from : ℕ → List ℕ → List Placed
 pieces_from i [] = []
 pieces_from i (c ∷ cs) =
-    cond (c == 32) (pieces_from (i + 1) cs)
-    (cond (letter c) (longer i c (starts_with_letter cs) (pieces_from (i + 1) cs))
-    (cond (c == 40) (put i open_bracket (pieces_from (i + 1) cs))
-    (cond (c == 41) (put i close_bracket (pieces_from (i + 1) cs)) (put i (stray c) (pieces_from (i + 1) cs)))))
+    if c == 32 then pieces_from (i + 1) cs
+    else if letter c then longer i c (starts_with_letter cs) (pieces_from (i + 1) cs)
+    else if c == 40 then put i open_bracket (pieces_from (i + 1) cs)
+    else if c == 41 then put i close_bracket (pieces_from (i + 1) cs)
+    else put i (stray c) (pieces_from (i + 1) cs)

@@ -1,6 +1,6 @@
 -- One backward reading of a tape, over any worths. The list of runs, the worths of a tally and plain truth are its
 -- instances.
-use Rattle.std.specs.Prelude.{ℕ, ◌+◌, Bool, true, false, cond, not, List, [], ◌∷◌}
+use Rattle.std.specs.Prelude.{ℕ, ◌+◌, Bool, true, false, if◌then◌else◌, not, List, [], ◌∷◌}
 use Rattle.temporal.specs.Formula.{Formula, atom, negation, unary, binary, nodes}
 use Rattle.temporal.specs.Forms.{unary_form, binary_form, left_sign, accepts}
 use Rattle.temporal.specs.Holds.{Answers}
@@ -47,7 +47,7 @@ module _ {X : Type 0} (m : Worths X) where
   -- a formula at one state, given its waiting parts (n: negative; b: the number of its first node)
   module _ (s : Counts) (waiting : Bool → ℕ → Formula → X) where
     abbrev pub here : Bool → ℕ → Formula → X
-    here n b (atom a) = cond (s n a) (m.weighs (visit b true)) m.none
+    here n b (atom a) = if s n a then m.weighs (visit b true) else m.none
     here n b (negation f) = here (not n) b f
     here n b (unary o f) = let x = here n b f in formed (unary_form o n) (waiting n b (unary o f)) x x
     here n b (binary o f g) = formed (binary_form o n) (waiting n b (binary o f g)) (here (left_sign o n) b f) (here n (b + nodes f) g)
@@ -55,7 +55,7 @@ module _ {X : Type 0} (m : Worths X) where
   -- a waiting part: at the last state the visit alone, if accepting; before it the visit, and then what is awaited at the
   -- next state
   abbrev pub waiting_part : List Counts → (Bool → ℕ → Formula → X) → Bool → ℕ → Formula → X
-  waiting_part [] after n b f = cond (accepts n f) (m.weighs (visit (root b f) true)) m.none
+  waiting_part [] after n b f = if accepts n f then m.weighs (visit (root b f) true) else m.none
   waiting_part (t ∷ later) after n b f = m.combined (m.weighs (visit (root b f) (accepts n f))) (after n b (awaited f))
 
   abbrev pub reading : List Counts → Bool → ℕ → Formula → X

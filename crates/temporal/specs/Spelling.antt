@@ -1,5 +1,5 @@
 -- What each piece of a text stands for, and how a formula is spelled.
-use Rattle.std.specs.Prelude.{◌≡◌, ℕ, cond, List, [], ◌∷◌, ◌++◌, map, length, slice_index_or}
+use Rattle.std.specs.Prelude.{◌≡◌, ℕ, if◌then◌else◌, List, [], ◌∷◌, ◌++◌, map, length, slice_index_or}
 use Rattle.std.specs.List.{range_with_len}
 use Rattle.std.specs.Str.{bytes_eq}
 use Rattle.temporal.specs.Formula.{Formula, atom, negation, unary, binary}
@@ -41,7 +41,7 @@ operator_entries = (not_word, begins negates) ∷ leading Next ∷ leading Alway
 
 abbrev pub looked_up : List Entry → List ℕ → Token
 looked_up [] w = unknown
-looked_up (e ∷ es) w = cond (bytes_eq e.0 w) e.1 (looked_up es w)
+looked_up (e ∷ es) w = if bytes_eq e.0 w then e.1 else looked_up es w
 
 module _ (vocabulary : List (List ℕ)) where
   -- an atom is its word's place in the vocabulary

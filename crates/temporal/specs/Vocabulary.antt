@@ -62,4 +62,4 @@ lawful_is words = refl
 abbrev pub listed_words : List (List ℕ) → List ℕ
 listed_words [] = []
 listed_words (w ∷ []) = w
-listed_words (w ∷ (v ∷ vs)) = w ++ (32 ∷ listed_words (v ∷ vs))
+listed_words (w ∷ v ∷ vs) = w ++ 32 ∷ listed_words (v ∷ vs)

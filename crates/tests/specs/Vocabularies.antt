@@ -22,7 +22,7 @@ pub record Limits : Type 0 where
   pub one_letter : lawful_vocabulary (one (codes "z")) ≡ true
   pub thirty_two_letters : lawful_vocabulary (one (long 32)) ≡ true
   pub thirty_three_letters : lawful_vocabulary (one (long 33)) ≡ false
-  pub twice : lawful_vocabulary (codes "asked" ∷ (codes "fits" ∷ (codes "asked" ∷ []))) ≡ false
+  pub twice : lawful_vocabulary (codes "asked" ∷ codes "fits" ∷ codes "asked" ∷ []) ≡ false
   pub capital : lawful_vocabulary (one (codes "Asked")) ≡ false
   pub before_a : lawful_vocabulary (one (codes "asked`")) ≡ false
   pub after_z : lawful_vocabulary (one (codes "asked{")) ≡ false
