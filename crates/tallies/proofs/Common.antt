@@ -1,14 +1,15 @@
 -- Shared nodes are those that every accepting run visits.
-use Rattle.std.proofs.Common.{◌≡◌, ℕ, ◌<◌, true, ◌&&◌, ◌||◌, ◌↔◌, eqb, ltb, List, [], ◌∷◌, sym, ap₂, ◌∙◌, arith}
-use Rattle.std.specs.List.{ContainsAt, AllByRecursion}
-use Rattle.std.proofs.ByRecursion.{all-has, all_has_itself, All-weaker, has_get_or}
+use Rattle.std.proofs.Common.{◌≡◌, ℕ, ◌<◌, true, ◌&&◌, ◌||◌, ◌↔◌, eqb, ltb, List, [], ◌∷◌, sym, refl, ap₂, ◌∙◌, arith}
+use Rattle.std.specs.List.{AllByRecursion, Contains}
 use Rattle.std.proofs.lemmas.Bool.{and_from, and_parts}
 use Rattle.std.proofs.lemmas.Bool.Decides.{nat_tests}
+use Rattle.std.proofs.lemmas.List.Elements.{Contains-get_or, recursion_from_All}
 use Rattle.temporal.specs.Formula.{Formula}
 use Rattle.temporal.specs.Reading.{Counts}
 use Rattle.temporal.specs.Runs.{runs}
 use Rattle.temporal.specs.Tallies.{Run}
 use Rattle.temporal.proofs.Exact.{exactly}
+use Rattle.temporal.proofs.Lists.{all_contained}
 use Rattle.tallies.specs.Limits.{most_nodes}
 use Rattle.tallies.specs.Shared.{has, node_sets}
 use Rattle.tallies.specs.SharedLaws.{intersected, united}
@@ -26,12 +27,12 @@ total_has (v ∷ run) k small =
 
 -- a list has some run, and a set the nodes that all its runs visit
 record Common (rs : List Run) (x : NodeSet) : Type 0 where
-  some : (run : Run) × ContainsAt rs run
+  some : (run : Run) × Contains rs run
   common : (k : ℕ) → k < most_nodes → has x k ≡ true ↔ AllByRecursion (λ run. visits run k ≡ true) rs
 
 common_more : (run : Run) (rs : List Run) (y : NodeSet) → Common rs y → Common (run ∷ rs) (node_sets.joined (total node_sets run) y)
 common_more run rs y h = record {
-  some = (run, has_get_or (run ∷ rs) 0 run (omega arith));
+  some = (run, (0, omega arith, refl));
   common = λ k small.
       let joined = intersected (total node_sets run) y k in
       let here = total_has run k small in (
@@ -43,7 +44,7 @@ common_more run rs y h = record {
 common : Grows node_sets Common
 common = record {
   one = λ run. record {
-    some = (run, has_get_or (run ∷ []) 0 run (omega arith));
+    some = (run, (0, omega arith, refl));
     common = λ k small. let here = total_has run k small in (λ e. (sym here ∙ e, tt), λ each. here ∙ each.0);
   };
   more = common_more;
@@ -55,7 +56,7 @@ shared_is_common tape f = record {
   some = λ x e. let (run, has) = (joint_is node_sets Common common tape f x e).some in (run, (exactly tape f run).0 has);
   common = λ x e k small.
       let both = (joint_is node_sets Common common tape f x e).common k small in (
-        λ h run a. all-has _ (runs tape f) run (both.0 h) ((exactly tape f run).1 a),
-        λ each. both.1 (All-weaker _ _ (λ run has. each run ((exactly tape f run).0 has)) (runs tape f) (all_has_itself (runs tape f))),
+        λ h run a. all_contained _ (runs tape f) run (both.0 h) ((exactly tape f run).1 a),
+        λ each. both.1 (recursion_from_All _ (runs tape f) (λ i d lt. each _ ((exactly tape f _).0 (Contains-get_or (runs tape f) i d lt)))),
       );
 }

@@ -1,7 +1,7 @@
 -- By a tally of measures with none added, the worth of a run is what its visits' measures combine to, and that of a list of
 -- runs is none only without runs.
 use Rattle.std.proofs.Common.{◌≡◌, List, [], ◌∷◌, Some, None, Option, sym, refl, ap, subst, arith}
-use Rattle.std.specs.List.{ContainsAt}
+use Rattle.std.specs.List.{Contains}
 use Rattle.temporal.specs.Accepts.{Accepted}
 use Rattle.temporal.specs.Formula.{Formula}
 use Rattle.temporal.specs.Reading.{Counts}
@@ -46,5 +46,5 @@ module _ {X : Type 0} (m : Measures X) where
       pub none_accepted : joint (with_none m) (runs tape f) ≡ None → Accepted tape f → ⊥
       none_accepted e (run, a) =
           let no_runs : runs tape f ≡ [] = subst (Told (runs tape f)) e (told (runs tape f)) in
-          let here : ContainsAt [] run = subst (λ rs. ContainsAt rs run) no_runs ((exactly tape f run).1 a) in
+          let here : Contains [] run = subst (λ rs. Contains rs run) no_runs ((exactly tape f run).1 a) in
           absurd (omega (arith, here.1))

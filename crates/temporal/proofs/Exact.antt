@@ -7,9 +7,8 @@ use mathlib.Core.List.Memᴰ.{head as in_head}
 use mathlib.Core.List.Memᴰ.{map as in_map}
 use mathlib.Core.List.Memᴰ.{tail as in_tail}
 use mathlib.Core.List.{Memᴰ as In}
-use Rattle.std.specs.List.{ContainsAt, AllByRecursion}
+use Rattle.std.specs.List.{AllByRecursion, Contains}
 use Rattle.std.proofs.lemmas.Bool.{cond_both}
-use Rattle.std.proofs.ByRecursion.{All-append, All-map, All-weaker, all-has}
 use Rattle.temporal.specs.Accepts.{Alone, alone, Onward, onward, Formed, and, or_left, or_right, next, always, eventually_later, eventually_now, until_now, until_later, release_later, release_now, Accepts, AcceptsHere, AcceptsFrom, Waits}
 use Rattle.temporal.specs.Formula.{Formula, atom, negation, unary, binary, nodes}
 use Rattle.temporal.specs.Forms.{unary_form, binary_form, left_sign, accepts}
@@ -20,17 +19,17 @@ use Rattle.temporal.specs.Tallies.{Run, visit}
 use Rattle.temporal.specs.declared.operators.Form.{Form}
 use Rattle.temporal.specs.declared.operators.Form.TheVariants as form
 use Rattle.temporal.specs.declared.visits.Visit.{Visit}
+use Rattle.temporal.proofs.Lists.{all_append, all_contained, all_mapped, all_weaker}
 
 -- what holds of the runs of two lists joined, and of each run of one followed by each run of the other
 module _ {P Q : Run → Type 0} (R : Run → Type 0) where
   all_joined : ((x : Run) → P x → R x) → ((y : Run) → Q y → R y) → (xs ys : List Run) → AllByRecursion P xs → AllByRecursion Q ys → AllByRecursion R (xs ++ ys)
-  all_joined f g xs ys ps qs = All-append R xs ys (All-weaker P R f xs ps) (All-weaker Q R g ys qs)
+  all_joined f g xs ys ps qs = all_append R xs ys (all_weaker f xs ps) (all_weaker g ys qs)
 
   pub all_followed : ((x y : Run) → P x → Q y → R (x ++ y)) → (xs ys : List Run) → AllByRecursion P xs → AllByRecursion Q ys → AllByRecursion R (followed xs ys)
   all_followed make [] ys ps qs = tt
   all_followed make (x ∷ xs) ys ps qs =
-      All-append R (map (λ y. x ++ y) ys) (followed xs ys)
-      (All-map R (λ y. x ++ y) ys (All-weaker Q (λ y. R (x ++ y)) (λ y q. make x y ps.0 q) ys qs))
+      all_append R (map (λ y. x ++ y) ys) (followed xs ys) (all_mapped R (λ y. x ++ y) (λ y q. make x y ps.0 q) ys qs)
       (all_followed make xs ys ps.1 qs)
 
 -- a run of one list, followed by a run of another, is in the list of these; what is in a list has a place there
@@ -38,8 +37,8 @@ in_followed : {x y : Run} {xs ys : List Run} → In x xs → In y ys → In (x +
 in_followed {y = y} {ys = ys} (in_head {x = z} {xs = zs} e) q = in_cast (ap (λ v. v ++ y) e) (in_left (followed zs ys) (in_map (λ v. z ++ v) q))
 in_followed {ys = ys} (in_tail {x = z} p) q = in_right (map (λ v. z ++ v) ys) (in_followed p q)
 
-has : {x : Run} {xs : List Run} → In x xs → ContainsAt xs x
-has (in_head e) = (0, omega arith, λ d. sym e)
+has : {x : Run} {xs : List Run} → In x xs → Contains xs x
+has (in_head e) = (0, omega arith, sym e)
 has (in_tail p) = let h = has p in (suc h.0, omega arith, h.2)
 
 -- a list has exactly the runs of a relation
@@ -52,7 +51,7 @@ module _ {W X Y : Run → Type 0} {ws xs ys : List Run} (ew : Exact W ws) (ex : 
   sound_formed : (o : Form) → AllByRecursion (Formed W X Y o) (formed run_lists o ws xs ys)
   sound_formed form.And = all_followed _ (λ x y p q. and p q) xs ys ex.sound ey.sound
   sound_formed form.Or = all_joined _ (λ x p. or_left p) (λ y q. or_right q) xs ys ex.sound ey.sound
-  sound_formed form.Next = All-weaker _ _ (λ w p. next p) ws ew.sound
+  sound_formed form.Next = all_weaker (λ w p. next p) ws ew.sound
   sound_formed form.Always = all_followed _ (λ w x p q. always p q) ws xs ew.sound ex.sound
   sound_formed form.Eventually = all_joined _ (λ w p. eventually_later p) (λ x q. eventually_now q) ws xs ew.sound ex.sound
   sound_formed form.Until = all_joined _ (λ y p. until_now p) (λ z q. q) ys (followed ws xs) ey.sound (all_followed _ (λ w x p q. until_later p q) ws xs ew.sound ex.sound)
@@ -114,5 +113,5 @@ exact : (tape : List Counts) (n : Bool) (b : ℕ) (f : Formula) → Exact (Accep
 exact [] n b f = record { sound = tt; complete = λ p. absurd p }
 exact (s ∷ later) n b f = exact_here (exact_waiting (exact later) later) s n b f
 
-pub exactly : (tape : List Counts) (f : Formula) (run : Run) → ContainsAt (runs tape f) run ↔ Accepts tape f run
-exactly tape f run = (all-has _ (runs tape f) run (exact tape false 0 f).sound, λ p. has ((exact tape false 0 f).complete p))
+pub exactly : (tape : List Counts) (f : Formula) (run : Run) → Contains (runs tape f) run ↔ Accepts tape f run
+exactly tape f run = (all_contained _ (runs tape f) run (exact tape false 0 f).sound, λ p. has ((exact tape false 0 f).complete p))

@@ -1,3 +1,4 @@
+pub mod Lists
 pub mod Related
 pub mod Worth
 pub mod Exact

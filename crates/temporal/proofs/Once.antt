@@ -4,8 +4,8 @@ use Rattle.std.proofs.Common.{◌≡◌, ℕ, zero, suc, ◌+◌, ◌<◌, ◌�
 use mathlib.Core.List.{head-eq_of_cons-eq}
 use Rattle.std.proofs.lemmas.Bool.{cond_both, false≢true}
 use Rattle.std.proofs.lemmas.List.{append_cancel_left}
-use Rattle.std.specs.List.{AllByRecursion}
-use Rattle.std.proofs.ByRecursion.{All-append, All-map, All-weaker, all_has_itself, All-get_or}
+use Rattle.std.specs.List.{AllByRecursion, Contains}
+use Rattle.std.proofs.lemmas.List.Elements.{All-contains_itself, All-from_recursion, recursion_from_All}
 use Rattle.temporal.specs.Formula.{Formula, atom, negation, unary, binary, nodes}
 use Rattle.temporal.specs.Forms.{unary_form, binary_form, left_sign, accepts}
 use Rattle.temporal.specs.Nodes.{root}
@@ -19,6 +19,7 @@ use Rattle.temporal.specs.declared.operators.Unary.{Unary}
 use Rattle.temporal.specs.declared.operators.Unary.TheVariants.{Next, Always, Eventually}
 use Rattle.temporal.specs.declared.visits.Visit.{Visit}
 use Rattle.temporal.proofs.Exact.{all_followed, exactly}
+use Rattle.temporal.proofs.Lists.{all_append, all_mapped, all_weaker}
 
 -- two runs of which neither begins the other
 abbrev Apart : Run → Run → Type 0
@@ -37,24 +38,25 @@ Code (x ∷ xs) = AllByRecursion (Apart x) xs × Code xs
 
 code_append : (xs ys : List Run) → Code xs → Code ys → AllByRecursion (λ x. AllByRecursion (Apart x) ys) xs → Code (xs ++ ys)
 code_append [] ys cx cy a = cy
-code_append (x ∷ xs) ys cx cy a = (All-append _ xs ys cx.0 a.0, code_append xs ys cx.1 cy a.1)
+code_append (x ∷ xs) ys cx cy a = (all_append _ xs ys cx.0 a.0, code_append xs ys cx.1 cy a.1)
 
 code_map : (x : Run) (ys : List Run) → Code ys → Code (map (λ y. x ++ y) ys)
 code_map x [] c = tt
-code_map x (y ∷ ys) c = (All-map _ (λ z. x ++ z) ys (All-weaker _ _ (apart_after x y) ys c.0), code_map x ys c.1)
+code_map x (y ∷ ys) c = (all_mapped _ (λ z. x ++ z) (apart_after x y) ys c.0, code_map x ys c.1)
 
 code_followed : (xs ys : List Run) → Code xs → Code ys → Code (followed xs ys)
 code_followed [] ys cx cy = tt
 code_followed (x ∷ xs) ys cx cy =
+    let own = recursion_from_All (Contains ys) ys (All-contains_itself ys) in
     code_append (map (λ y. x ++ y) ys) (followed xs ys) (code_map x ys cy) (code_followed xs ys cx.1 cy)
-    (All-map _ (λ y. x ++ y) ys (All-weaker _ _ (λ y h. all_followed _ (λ z w a q. apart_before x y z w a) xs ys cx.0 (all_has_itself ys)) ys (all_has_itself ys)))
+    (all_mapped _ (λ y. x ++ y) (λ y h. all_followed _ (λ z w a q. apart_before x y z w a) xs ys cx.0 own) ys own)
 
 -- in such a list no run has two places
 once : (rs : List Run) → Code rs → (i j : ℕ) → i < length rs → j < length rs → get_or rs i [] ≡ get_or rs j [] → i ≡ j
 once [] c i j p q e = omega arith
 once (r ∷ rs) c zero zero p q e = refl
-once (r ∷ rs) c zero (suc j) p q e = absurd (All-get_or _ rs j [] (omega arith) c.0 [] [] (ap (λ z. z ++ []) e))
-once (r ∷ rs) c (suc i) zero p q e = absurd (All-get_or _ rs i [] (omega arith) c.0 [] [] (ap (λ z. z ++ []) (sym e)))
+once (r ∷ rs) c zero (suc j) p q e = absurd (All-from_recursion _ rs c.0 j [] (omega arith) [] [] (ap (λ z. z ++ []) e))
+once (r ∷ rs) c (suc i) zero p q e = absurd (All-from_recursion _ rs c.0 i [] (omega arith) [] [] (ap (λ z. z ++ []) (sym e)))
 once (r ∷ rs) c (suc i) (suc j) p q e = ap suc (once rs c.1 i j (omega arith) (omega arith) e)
 
 -- nodes from l up to h: inside those from lo up to hi, and with none in common with those from m up to k
@@ -93,7 +95,7 @@ coded_alone : (k : ℕ) (test : Bool) → Coded k (k + 1) (cond test ((visit k t
 coded_alone k test = cond_both test _ _ (Coded k (k + 1)) (λ e. coded_visit k true) (λ e. coded_none)
 
 coded_wider : {l h lo hi : ℕ} {rs : List Run} → Inside l h lo hi → Coded l h rs → Coded lo hi rs
-coded_wider {rs = rs} i c = record { code = c.code; begins = All-weaker _ _ (begins_wider i) rs c.begins }
+coded_wider {rs = rs} i c = record { code = c.code; begins = all_weaker (begins_wider i) rs c.begins }
 
 coded_followed : {lo hi m k : ℕ} {xs ys : List Run} → Coded lo hi xs → Coded m k ys → Coded lo hi (followed xs ys)
 coded_followed {xs = xs} {ys = ys} cx cy = record { code = code_followed xs ys cx.code cy.code; begins = all_followed _ (λ x y p q. begins_longer x y p) xs ys cx.begins cy.begins }
@@ -101,8 +103,8 @@ coded_followed {xs = xs} {ys = ys} cx cy = record { code = code_followed xs ys c
 coded_append : {lo hi l h m k : ℕ} {xs ys : List Run} → (Inside l h lo hi × Inside m k lo hi × Disjoint l h m k) → Coded l h xs → Coded m k ys → Coded lo hi (xs ++ ys)
 coded_append {xs = xs} {ys = ys} i cx cy =
     record {
-      code = code_append xs ys cx.code cy.code (All-weaker _ _ (λ x p. All-weaker _ _ (λ y. begins_apart i.2 x y p) ys cy.begins) xs cx.begins);
-      begins = All-append _ xs ys (coded_wider i.0 cx).begins (coded_wider i.1 cy).begins;
+      code = code_append xs ys cx.code cy.code (all_weaker (λ x p. all_weaker (λ y. begins_apart i.2 x y p) ys cy.begins) xs cx.begins);
+      begins = all_append _ xs ys (coded_wider i.0 cx).begins (coded_wider i.1 cy).begins;
     }
 
 -- a waiting part begins at its operator's node k, past its operands' nodes, and these lie apart where the form is a choice between them

@@ -2,8 +2,7 @@
 use Rattle.std.proofs.Common.{◌≡◌, ℕ, ◌+◌, Bool, true, false, cond, not, List, [], ◌∷◌, ◌++◌, filter, sym, refl, ◌∙◌, subst, true≢false}
 use Rattle.std.specs.List.{AllByRecursion}
 use Rattle.std.proofs.lemmas.Bool.{cond_both}
-use Rattle.std.proofs.lemmas.List.Elements.{filter-append}
-use Rattle.std.proofs.ByRecursion.{All-append}
+use Rattle.std.proofs.lemmas.List.Elements.{All-from_recursion, filter-append, recursion_from_All}
 use Rattle.temporal.specs.Formula.{Formula, atom, negation, unary, binary, nodes}
 use Rattle.temporal.specs.Forms.{binary_form, binary_waits, left_sign, unary_form}
 use Rattle.temporal.specs.Nodes.{Node, in_order, node, waiting_operators, waits}
@@ -15,6 +14,7 @@ use Rattle.temporal.specs.declared.operators.Binary.TheVariants.{And, Or, Implie
 use Rattle.temporal.specs.declared.operators.Form.{Form}
 use Rattle.temporal.specs.declared.operators.Unary.{Unary}
 use Rattle.temporal.specs.declared.operators.Unary.TheVariants.{Next, Always, Eventually}
+use Rattle.temporal.proofs.Lists.{all_append}
 
 -- of two lists of nodes, one after the other, the waiting ones are those of each
 abbrev waiting : List Node → List Node
@@ -29,7 +29,7 @@ module _ (P : Node → Type 0) where
   split xs ys h = all_apart (waiting xs) (waiting ys) (subst (AllByRecursion P) (filter-append (λ x. waits x.formula) xs ys) h)
 
   joined : (xs ys : List Node) → AllByRecursion P (waiting xs) → AllByRecursion P (waiting ys) → AllByRecursion P (waiting (xs ++ ys))
-  joined xs ys p q = subst (AllByRecursion P) (sym (filter-append (λ x. waits x.formula) xs ys)) (All-append P (waiting xs) (waiting ys) p q)
+  joined xs ys p q = subst (AllByRecursion P) (sym (filter-append (λ x. waits x.formula) xs ys)) (all_append P (waiting xs) (waiting ys) p q)
 
 abbrev Same : Marks → Marks → Node → Type 0
 Same v w x = v.waits x.negative x.first x.formula ≡ w.waits x.negative x.first x.formula
@@ -91,4 +91,5 @@ earlier_agrees e s v w n b (binary o f g) h =
 pub own_operators_decide : OwnOperatorsDecide
 own_operators_decide f [] v w start own = start
 own_operators_decide f (s ∷ noted) v w start own =
-    own_operators_decide f noted (earlier f s v) (earlier f s w) (given_same s v w false 0 f own) (earlier_agrees f s v w false 0 f own)
+    let agree = recursion_from_All (Same v w) (waiting_operators false 0 f) own in
+    own_operators_decide f noted (earlier f s v) (earlier f s w) (given_same s v w false 0 f agree) (All-from_recursion _ (waiting_operators false 0 f) (earlier_agrees f s v w false 0 f agree))

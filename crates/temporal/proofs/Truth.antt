@@ -1,8 +1,7 @@
 -- Truth is a reading too: it tells whether there are accepting runs.
 use Rattle.std.proofs.Common.{◌≡◌, Bool, true, false, ◌&&◌, ◌||◌, ◌↔◌, List, [], ◌∷◌, ◌++◌, sym, refl, ◌∙◌, ap₂, arith}
 use Rattle.std.proofs.lemmas.Bool.{false≢true}
-use Rattle.std.specs.List.{ContainsAt}
-use Rattle.std.proofs.ByRecursion.{has_get_or}
+use Rattle.std.specs.List.{Contains}
 use Rattle.temporal.specs.Accepts.{Accepted}
 use Rattle.temporal.specs.Formula.{Formula}
 use Rattle.temporal.specs.Reading.{Counts, reading}
@@ -35,9 +34,9 @@ keeps_some = record {
 }
 
 -- a list that has some run has a first one
-some_first : (rs : List Run) → some rs ≡ true ↔ ((run : Run) × ContainsAt rs run)
+some_first : (rs : List Run) → some rs ≡ true ↔ ((run : Run) × Contains rs run)
 some_first [] = (λ e. absurd (false≢true e), λ (run, h). absurd (omega (arith, h.1)))
-some_first (r ∷ rs) = (λ e. (r, has_get_or (r ∷ rs) 0 r (omega arith)), λ h. refl)
+some_first (r ∷ rs) = (λ e. (r, (0, omega arith, refl)), λ h. refl)
 
 pub truth_tells : (tape : List Counts) (f : Formula) → reading truths tape false 0 f ≡ true ↔ Accepted tape f
 truth_tells tape f =

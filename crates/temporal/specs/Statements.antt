@@ -1,6 +1,6 @@
 -- The theorems, each the contract of a public call.
 use Rattle.std.specs.Prelude.{◌≡◌, ℕ, ◌<◌, Bool, true, false, ◌↔◌, List, [], ◌++◌, map, length, slice_index_or}
-use Rattle.std.specs.List.{range_with_len, ContainsAt, AllByRecursion}
+use Rattle.std.specs.List.{range_with_len, All, Contains}
 use Rattle.temporal.specs.Accepts.{Accepted, Accepts}
 use Rattle.temporal.specs.Formula.{Formula, nodes}
 use Rattle.temporal.specs.Holds.{Answers, Holds}
@@ -17,7 +17,7 @@ NumberedInOrder = (f : Formula) → map number (in_order false 0 f) ≡ range_wi
 
 -- a list has exactly the runs of a relation, and none of them at two places
 pub record EachOnce (P : Run → Type 0) (runs : List Run) : Type 0 where
-  pub exactly : (run : Run) → ContainsAt runs run ↔ P run
+  pub exactly : (run : Run) → Contains runs run ↔ P run
   pub once : (i j : ℕ) → i < length runs → j < length runs → slice_index_or runs i [] ≡ slice_index_or runs j [] → i ≡ j
 
 -- the list of runs has exactly the accepting runs, each once
@@ -33,7 +33,7 @@ WaitsAreInOrder = (n : Bool) (b : ℕ) (f : Formula) → WaitsInOrder n b f
 
 -- every visit of an accepting run is the visit of one of the rule's nodes
 abbrev pub VisitsAreOfNodes : Type 0
-VisitsAreOfNodes = (tape : List Counts) (f : Formula) (run : Run) → Accepts tape f run → AllByRecursion (ContainsAt (map visit_of (in_order false 0 f))) run
+VisitsAreOfNodes = (tape : List Counts) (f : Formula) (run : Run) → Accepts tape f run → All (Contains (map visit_of (in_order false 0 f))) run
 
 -- the joint worth of a formula's runs, of either sign and from any node number on, is the reading by the tally's own
 -- operations; the rule itself is positive, and its first node has the number 0
@@ -61,7 +61,7 @@ abbrev pub OwnOperatorsDecide : Type 0
 OwnOperatorsDecide =
     (f : Formula) (noted : List Counts) (v w : Marks)
     → v.start ≡ w.start
-    → AllByRecursion (λ x. v.waits x.negative x.first x.formula ≡ w.waits x.negative x.first x.formula) (waiting_operators false 0 f)
+    → All (λ x. v.waits x.negative x.first x.formula ≡ w.waits x.negative x.first x.formula) (waiting_operators false 0 f)
     → suffices f noted v ≡ suffices f noted w
 
 -- kept and broken never turn, and foretell the end, whatever states follow
