@@ -1,6 +1,5 @@
 pub mod Answers
 pub mod Atoms
-pub mod Vocabulary
 pub mod HeapLaw
 pub mod Heap
 pub mod Valve

@@ -8,7 +8,8 @@ use refusals::{Cause, Refusal};
 use std::fmt;
 
 // What the controller noted of its heap: bytes free, the largest free block, the bytes wanted, and
-// what came of it. No record is unlawful: `new` is the only source.
+// what came of it. No record is unlawful: `new` is the only source. A kind of state is a struct of
+// numbers: `new` is to be handed an outcome of 3, and to refuse it.
 #[derive(Clone, Copy, PartialEq, Eq, Debug)]
 pub struct HeapRecord {
     free: u32,

@@ -1,6 +1,6 @@
 ghost use Rattle.std.specs.Prelude.{◌≡◌, ℕ, ◌≤◌, true, false, List, length};
 ghost use Rattle.states.specs.Answers.{answered};
-ghost use Rattle.states.specs.Vocabulary.{lawful_vocabulary, listed_words};
+ghost use Rattle.temporal.specs.Vocabulary.{lawful_vocabulary, listed_words};
 ghost use Rattle.states.specs.declared.answer.Answer.{Answer};
 
 use crate::answer::Answer;

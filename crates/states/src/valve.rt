@@ -5,7 +5,8 @@ use crate::answer::Answer;
 use crate::state::State;
 use refusals::{Cause, Refusal};
 
-// What the controller noted of its valves: sixteen valve bits, and whether the pump ran (0 or 1).
+// What the controller noted of its valves: sixteen valve bits, and whether the pump ran (0 or 1). A
+// kind of state is a struct of numbers: `new` is to be handed a pump byte of 2, and to refuse it.
 #[derive(Clone, Copy, PartialEq, Eq, Debug)]
 pub struct ValveRecord {
     bits: u16,

@@ -5,7 +5,8 @@ ghost use Rattle.tallies.specs.OptionLaws.{with_none_laws};
 use crate::tally::Tally;
 use temporal::visits::Visit;
 
-// What a run comes to, by a tally that has such measures for its worths, and none apart from them.
+// What a run comes to, by a tally that has such measures for its worths, and none apart from them. It
+// has the calls of a tally but for `none`, and the laws that do not speak of it.
 pub trait Measure: Copy {
     ghost measures: { Measures Self };
 

@@ -9,7 +9,7 @@ use temporal::visits::Visit;
 // The nodes that every run visits; none without a run.
 pub type Shared = Option<NodeSet>;
 
-// A set of nodes that a rule can have, by the bits of a number.
+// A set of nodes that a rule can have, by the bits of a number: the library has no heap.
 #[derive(Clone, Copy, PartialEq, Eq, Debug)]
 pub struct NodeSet {
     bits: u64,

@@ -2,13 +2,13 @@ ghost use Rattle.std.specs.Iterator.{YieldsFirst, YieldsLast, item_count};
 
 use crate::tape::Tape;
 use std::marker::Model;
+use std::ops::Range;
 
 // The states of a tape in order, from either end, seen as the list of those that are still to come.
 #[derive(Drop)]
 pub struct Iter<'a, T: Tape> {
     pub(crate) tape: &'a T,
-    pub(crate) next: usize,
-    pub(crate) end: usize,
+    pub(crate) places: Range<usize>,
 }
 
 impl<'a, T: Tape> Model for Iter<'a, T> {
@@ -17,9 +17,9 @@ impl<'a, T: Tape> Model for Iter<'a, T> {
 
     ghost Value = { List T.Item };
 
-    ghost view = { λ i. between i.next i.end (T.Tape.states i.tape.now) };
+    ghost view = { λ i. between i.places.start i.places.end (T.Tape.states i.tape.now) };
 
-    ghost invariant = { λ i. (i.next ≤ i.end) × (i.end ≤ length (T.Tape.states i.tape.now)) };
+    ghost invariant = { λ i. (i.places.start ≤ i.places.end) × (i.places.end ≤ length (T.Tape.states i.tape.now)) };
 }
 
 impl<'a, T: Tape> Iterator for Iter<'a, T> {
@@ -30,12 +30,7 @@ impl<'a, T: Tape> Iterator for Iter<'a, T> {
     ghost remaining = { item_count (λ states. states) };
 
     fn next(&mut self) -> Option<T::Item> {
-        if self.next == self.end {
-            return None;
-        }
-        let state = self.tape.at(self.next);
-        self.next += 1;
-        state
+        self.tape.at(self.places.next()?)
     }
 }
 
@@ -43,10 +38,6 @@ impl<'a, T: Tape> DoubleEndedIterator for Iter<'a, T> {
     ghost next_back_gives = { YieldsLast (λ states. states) };
 
     fn next_back(&mut self) -> Option<T::Item> {
-        if self.next == self.end {
-            return None;
-        }
-        self.end -= 1;
-        self.tape.at(self.end)
+        self.tape.at(self.places.next_back()?)
     }
 }

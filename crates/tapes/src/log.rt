@@ -5,7 +5,8 @@ use crate::tape::{GrowingTape, Tape};
 use refusals::{Cause, Refusal};
 use states::state::State;
 
-// A growing tape of any kind of state over lent cells: the first `used` of them.
+// A growing tape of any kind of state over lent cells: the first `used` of them. The cells are the
+// caller's, since the library has no heap.
 #[derive(Drop)]
 pub struct Log<'a, S> {
     cells: &'a mut [S],

@@ -26,8 +26,7 @@ pub trait Tape {
     {
         Iter {
             tape: self,
-            next: 0,
-            end: self.len(),
+            places: 0..self.len(),
         }
     }
 }

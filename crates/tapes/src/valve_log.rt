@@ -6,7 +6,8 @@ use crate::valve_tape::ValveTape;
 use refusals::{Cause, Refusal};
 use states::valve::ValveRecord;
 
-// A growing tape of valve records over lent bytes, three a record: the first `used` records.
+// A growing tape of valve records over lent bytes, three a record: the first `used` records. It is
+// apart from `Log`, which stores states as they are.
 #[derive(Drop)]
 pub struct ValveLog<'a> {
     bytes: &'a mut [u8],

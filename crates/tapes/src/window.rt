@@ -11,8 +11,7 @@ use std::ops::Range;
 #[derive(Drop)]
 pub struct Window<T: Tape> {
     below: T,
-    start: usize,
-    end: usize,
+    part: Range<usize>,
 }
 
 impl<T: Tape> Model for Window<T> {
@@ -21,9 +20,9 @@ impl<T: Tape> Model for Window<T> {
 
     ghost Value = { List T.Item };
 
-    ghost view = { λ w. between w.start w.end (T.Tape.states w.below) };
+    ghost view = { λ w. between w.part.start w.part.end (T.Tape.states w.below) };
 
-    ghost invariant = { λ w. (w.start ≤ w.end) × (w.end ≤ length (T.Tape.states w.below)) };
+    ghost invariant = { λ w. (w.part.start ≤ w.part.end) × (w.part.end ≤ length (T.Tape.states w.below)) };
 }
 
 impl<T: Tape> Window<T> {
@@ -43,8 +42,7 @@ impl<T: Tape> Window<T> {
         requires { Inside (length (T.Tape.states below)) part.start part.end }
         ensures { result ≡ between part.start part.end (T.Tape.states below) }
     {
-        let Range { start, end } = part;
-        Window { below, start, end }
+        Window { below, part }
     }
 }
 
@@ -54,12 +52,12 @@ impl<T: Tape> Tape for Window<T> {
     ghost states = { λ states. states };
 
     fn len(&self) -> usize {
-        self.end - self.start
+        self.part.len()
     }
 
     fn at(&self, place: usize) -> Option<T::Item> {
-        if place < self.end - self.start {
-            self.below.at(self.start + place)
+        if place < self.part.end - self.part.start {
+            self.below.at(self.part.start + place)
         } else {
             None
         }

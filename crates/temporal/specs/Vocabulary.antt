@@ -1,6 +1,7 @@
 -- Letters and words: the operator words, and which vocabularies are lawful. A lawful one has one to sixteen different
 -- words of 1 to 32 letters a to z, none of them an operator word.
-use Rattle.std.specs.Prelude.{◌≡◌, ℕ, Bool, true, false, not, ◌&&◌, ◌||◌, List, [], ◌∷◌, ◌++◌, length, codes, nat_le, refl}
+use Rattle.std.specs.Prelude.{ℕ, Bool, true, not, ◌&&◌, List, [], ◌∷◌, ◌++◌, length, codes, nat_le}
+use Rattle.std.specs.List.{list_all, list_any}
 use Rattle.std.specs.Str.{bytes_eq}
 use Rattle.temporal.specs.declared.operators.Unary.{Unary}
 use Rattle.temporal.specs.declared.operators.Unary.TheVariants.{Next, Always, Eventually}
@@ -31,32 +32,18 @@ operators = not_word ∷ unary_word Next ∷ unary_word Always ∷ unary_word Ev
 abbrev in_range : ℕ → ℕ → ℕ → Bool
 in_range least most n = nat_le least n && nat_le n most
 
-abbrev all : {X : Type 0} → (X → Bool) → List X → Bool
-all test [] = true
-all test (x ∷ xs) = test x && all test xs
-
-abbrev pub among : List (List ℕ) → List ℕ → Bool
-among [] w = false
-among (v ∷ vs) w = bytes_eq v w || among vs w
+abbrev among : List (List ℕ) → List ℕ → Bool
+among words w = list_any (λ v. bytes_eq v w) words
 
 abbrev different : List (List ℕ) → Bool
 different [] = true
 different (w ∷ ws) = not (among ws w) && different ws
 
 abbrev lawful_word : List ℕ → Bool
-lawful_word w = in_range 1 32 (length w) && (all letter w && not (among operators w))
+lawful_word w = in_range 1 32 (length w) && (list_all letter w && not (among operators w))
 
-abbrev pub passes : List (List ℕ) → Bool
-passes words = in_range 1 16 (length words) && (all lawful_word words && different words)
-
--- the same test, shut, so that searches in generic code do not open it
-unfoldable pub lawful_vocabulary : List (List ℕ) → Bool
-lawful_vocabulary words = passes words
-
--- so a kind shows its vocabulary lawful by computing the test
-pub lawful_is : (words : List (List ℕ)) → lawful_vocabulary words ≡ passes words
-unfolding lawful_vocabulary
-lawful_is words = refl
+abbrev pub lawful_vocabulary : List (List ℕ) → Bool
+lawful_vocabulary words = in_range 1 16 (length words) && (list_all lawful_word words && different words)
 
 -- the words in order, one space between neighbours
 abbrev pub listed_words : List (List ℕ) → List ℕ

@@ -1,6 +1,6 @@
 -- The law of a vocabulary on both sides of each of its limits.
 use Rattle.std.specs.Prelude.{◌≡◌, ℕ, true, false, List, [], ◌∷◌, map, replicate, codes}
-use Rattle.states.specs.Vocabulary.{lawful_vocabulary}
+use Rattle.temporal.specs.Vocabulary.{lawful_vocabulary}
 use Rattle.std.specs.List.{range_with_len}
 
 -- the word of n letters a

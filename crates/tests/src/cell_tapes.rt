@@ -1,19 +1,11 @@
 // Tapes over cells, to read and to grow.
-use crate::seen::{refused, seen};
-use refusals::{Cause, Refusal};
-use states::heap::HeapRecord;
+use crate::seen::{dispensed, idle, refused, refusing, seen};
+use refusals::Cause;
+use std::array;
 use std::test::Fail;
 use tapes::cells::Cells;
 use tapes::log::Log;
 use tapes::tape::{GrowingTape, Tape};
-
-fn idle() -> Result<HeapRecord, Refusal> {
-    HeapRecord::new(1_000, 400, 0, HeapRecord::IDLE)
-}
-
-fn dispensed() -> Result<HeapRecord, Refusal> {
-    HeapRecord::new(1_000, 400, 300, HeapRecord::DISPENSED)
-}
 
 #[test]
 fn cells_are_read_in_order(rt: HostRuntime) -> Result<(), Fail> {
@@ -50,7 +42,7 @@ fn a_log_of_one_cell_takes_one_state(rt: HostRuntime) -> Result<(), Fail> {
 #[test]
 fn a_log_of_two_cells_writes_one_at_a_time(rt: HostRuntime) -> Result<(), Fail> {
     let first = dispensed()?;
-    let second = HeapRecord::new(1_000, 400, 500, HeapRecord::REFUSED)?;
+    let second = refusing()?;
     let mut cells = [idle()?, idle()?];
     let mut log = Log::new(&mut cells);
     log.append(first)?;
@@ -70,29 +62,19 @@ fn a_tape_is_gone_over_from_either_end(rt: HostRuntime) -> Result<(), Fail> {
     let tape = Cells::new(&cells);
     let mut forward = tape.iter();
     assert_eq!(rt;
-        [
-            forward.next(),
-            forward.next(),
-            forward.next(),
-            forward.next()
-        ],
+        array::from_fn(|_| forward.next()),
         [Some(cells[0]), Some(cells[1]), Some(cells[2]), None]
     );
     let mut backward = tape.iter().rev();
     assert_eq!(rt;
-        [
-            backward.next(),
-            backward.next(),
-            backward.next(),
-            backward.next()
-        ],
+        array::from_fn(|_| backward.next()),
         [Some(cells[2]), Some(cells[1]), Some(cells[0]), None]
     );
     let mut both = tape.iter();
-    assert_eq!(rt;
-        [both.next_back(), both.next(), both.next_back(), both.next()],
-        [Some(cells[2]), Some(cells[0]), Some(cells[1]), None]
-    );
+    assert_eq!(rt; both.next_back(), Some(cells[2]));
+    assert_eq!(rt; both.next(), Some(cells[0]));
+    assert_eq!(rt; both.next_back(), Some(cells[1]));
+    assert_eq!(rt; both.next(), None);
     assert_eq!(rt; Cells::new(&cells[..0]).iter().next(), None);
     Ok(())
 }

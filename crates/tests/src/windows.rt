@@ -1,7 +1,6 @@
 // Windows over tapes to read and to grow, and over windows.
-use crate::seen::{refused, seen};
+use crate::seen::{dispensed, idle, refused, refusing, seen};
 use refusals::Cause;
-use states::heap::HeapRecord;
 use states::valve::ValveRecord;
 use std::test::Fail;
 use tapes::cells::Cells;
@@ -12,7 +11,7 @@ use tapes::window::Window;
 
 #[test]
 fn bounds_are_checked(rt: HostRuntime) -> Result<(), Fail> {
-    let cells = [HeapRecord::new(1_000, 400, 0, 0)?; 3];
+    let cells = [idle()?; 3];
     let tape = Cells::new(&cells);
     for (start, end) in [(0, 0), (0, 3), (1, 2), (2, 2), (3, 3)] {
         assert_eq!(rt; Window::check(&tape, start..end), Ok(()));
@@ -34,9 +33,9 @@ fn bounds_are_checked(rt: HostRuntime) -> Result<(), Fail> {
 
 #[test]
 fn a_window_is_that_part(rt: HostRuntime) -> Result<(), Fail> {
-    let first = HeapRecord::new(1_000, 400, 0, 0)?;
-    let second = HeapRecord::new(1_000, 400, 500, 2)?;
-    let third = HeapRecord::new(1_000, 400, 300, 1)?;
+    let first = idle()?;
+    let second = refusing()?;
+    let third = dispensed()?;
     let cells = [first, second, third];
     let tape = Cells::new(&cells);
     Window::check(&tape, 1..3)?;
@@ -52,8 +51,8 @@ fn a_window_is_that_part(rt: HostRuntime) -> Result<(), Fail> {
 
 #[test]
 fn a_growing_tape_has_windows(rt: HostRuntime) -> Result<(), Fail> {
-    let first = HeapRecord::new(1_000, 400, 0, 0)?;
-    let second = HeapRecord::new(1_000, 400, 500, 2)?;
+    let first = idle()?;
+    let second = refusing()?;
     let mut cells = [first; 3];
     let mut log = Log::new(&mut cells);
     log.append(first)?;
@@ -85,8 +84,8 @@ fn an_empty_window_has_no_state(rt: HostRuntime) -> Result<(), Fail> {
 
 #[test]
 fn a_window_takes_a_growing_tape_along(rt: HostRuntime) -> Result<(), Fail> {
-    let first = HeapRecord::new(1_000, 400, 0, 0)?;
-    let second = HeapRecord::new(1_000, 400, 500, 2)?;
+    let first = idle()?;
+    let second = refusing()?;
     let mut cells = [first; 3];
     let mut log = Log::new(&mut cells);
     log.append(first)?;
