@@ -1,7 +1,6 @@
 // Tapes over cells, to read and to grow.
 use crate::seen::{dispensed, idle, refused, refusing, seen};
 use refusals::Cause;
-use std::array;
 use std::test::Fail;
 use tapes::cells::Cells;
 use tapes::log::Log;
@@ -62,12 +61,22 @@ fn a_tape_is_gone_over_from_either_end(rt: HostRuntime) -> Result<(), Fail> {
     let tape = Cells::new(&cells);
     let mut forward = tape.iter();
     assert_eq!(rt;
-        array::from_fn(|_| forward.next()),
+        [
+            forward.next(),
+            forward.next(),
+            forward.next(),
+            forward.next()
+        ],
         [Some(cells[0]), Some(cells[1]), Some(cells[2]), None]
     );
     let mut backward = tape.iter().rev();
     assert_eq!(rt;
-        array::from_fn(|_| backward.next()),
+        [
+            backward.next(),
+            backward.next(),
+            backward.next(),
+            backward.next()
+        ],
         [Some(cells[2]), Some(cells[1]), Some(cells[0]), None]
     );
     let mut both = tape.iter();
