@@ -25,7 +25,8 @@ impl Count {
     }
 
     pub fn number(&self) -> u32
-        ensures { result ≡ self.now.number }
+        ensures value { result ≡ self.now.number }
+        ensures capped { result ≤ Count.CAP }
     {
         self.number
     }

@@ -1,5 +1,5 @@
 -- Valve records in bytes: which bytes a record depends on, and what writing one changes.
-use Rattle.std.proofs.Common.{◌≡◌, ℕ, ◌+◌, ◌*◌, ◌/◌, ◌%◌, ◌<◌, ◌≤◌, ◌≢◌, List, [], ◌∷◌, ◌++◌, length, get_or, take, drop, set, suc, zero, Some, None, Option, MatchOption, Ok, Err, Result, IsOk, below_more, sym, refl, ap, ◌∙◌, subst, inl, inr, arith, length-set}
+use Rattle.std.proofs.Common.{◌≡◌, ℕ, ◌+◌, ◌*◌, ◌/◌, ◌%◌, ◌<◌, ◌≤◌, ◌≢◌, List, [], ◌∷◌, ◌++◌, length, get_or, take, drop, set, suc, zero, Some, None, Option, MatchOption, Ok, Err, Result, below_more, sym, refl, ap, ◌∙◌, subst, inl, inr, arith, length-set}
 use Rattle.refusals.specs.declared.Refusal.{Refusal}
 use Rattle.states.proofs.Records.{same_valve}
 use Rattle.states.specs.declared.valve.ValveRecord.{ValveRecord}
@@ -178,14 +178,14 @@ module _ (bytes : List ℕ) (k : ℕ) (three : List ℕ) (below : k < length byt
   byte_is : (j : ℕ) → j < 3 → get_or three j 0 ≡ get_or bytes (3 * k + j) 0
   byte_is j small = ap (λ b. get_or b j 0) is ∙ chunk_byte (length bytes / 3) k j bytes three below small
 
-  pub decoded : (v : ValveRecord) → encoded v ≡ three → v ≡ valve_at bytes k
-  decoded v e =
+  same : (v : ValveRecord) → encoded v ≡ three → v ≡ valve_at bytes k
+  same v e =
       let first : get_or bytes (3 * k + 0) 0 ≡ get_or bytes (3 * k) 0 = ap (λ i. get_or bytes i 0) (omega arith) in
       let high : v.bits / 256 ≡ get_or bytes (3 * k) 0 = ap (λ b. get_or b 0 0) e ∙ byte_is 0 (omega arith) ∙ first in
       let low : v.bits % 256 ≡ get_or bytes (3 * k + 1) 0 = ap (λ b. get_or b 1 0) e ∙ byte_is 1 (omega arith) in
       let pump : v.pump ≡ get_or bytes (3 * k + 2) 0 = ap (λ b. get_or b 2 0) e ∙ byte_is 2 (omega arith) in
       same_valve v (valve_at bytes k) (omega (arith, high, low)) (omega (arith, pump, v.lawful))
 
-  pub readable : LawfulPumps (length bytes / 3) bytes → (r : Result ValveRecord Refusal) → Decodes three r → IsOk r
-  readable lawful (Ok v) e = refl
-  readable lawful (Err e) (above, by) = absurd (omega (arith, above, byte_is 2 (omega arith), lawful k below))
+  pub decoded : LawfulPumps (length bytes / 3) bytes → (r : Result ValveRecord Refusal) → Decodes three r → r ≡ Ok (valve_at bytes k)
+  decoded lawful (Ok v) e = ap Ok (same v e)
+  decoded lawful (Err e) (above, by) = absurd (omega (arith, above, byte_is 2 (omega arith), lawful k below))

@@ -37,6 +37,7 @@ impl<'a, T: Tape> Iterator for Iter<'a, T> {
 impl<'a, T: Tape> DoubleEndedIterator for Iter<'a, T> {
     ghost next_back_gives = { YieldsLast (λ states. states) };
 
+    #[tactic(auto, using(std::proofs::lemmas::List::Edits::between_more))]
     fn next_back(&mut self) -> Option<T::Item> {
         self.tape.at(self.places.next_back()?)
     }
