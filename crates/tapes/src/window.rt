@@ -40,19 +40,14 @@ impl<T: Tape> Tape for Window<T> {
 
     ghost states = { λ w. between w.part.start w.part.end (T.Tape.states w.below) };
 
+    // The end is within the tape below, but the type does not say so: hence `min`.
     fn len(&self) -> usize {
-        self.part
-            .end
-            .min(self.below.len())
-            .saturating_sub(self.part.start)
+        let end = self.part.end.min(self.below.len());
+        end.saturating_sub(self.part.start)
     }
 
     fn at(&self, place: usize) -> Option<T::Item> {
         let at = self.part.start.saturating_add(place);
-        if at < self.part.end {
-            self.below.at(at)
-        } else {
-            None
-        }
+        self.below.at(at).filter(|_| at < self.part.end)
     }
 }
