@@ -27,7 +27,7 @@ digit_part : (d p : ℕ) → d < 2 → cond (d == 1) p 0 ≡ d * p
 digit_part zero p h = omega arith
 digit_part (suc d) p h = grind (arith, nat_tests)
 
-power_sum_is : (n w : ℕ) → power_sum (has (of_bits n)) w ≡ n % 2 ^ w
+pub power_sum_is : (n w : ℕ) → power_sum (has (of_bits n)) w ≡ n % 2 ^ w
 unfolding power_sum
 power_sum_is n zero = sym (mod-one n)
 power_sum_is n (suc k) =

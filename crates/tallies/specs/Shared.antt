@@ -16,7 +16,7 @@ abbrev pub has : NodeSet → ℕ → Bool
 has s k = bit_at s.bits k == 1
 
 -- the sum of 2 to the power of each number below n that passes a test; shut, since with a numeral it would compute to a
--- sum of as many parts: `SetsOfNodes.summed` is its law
+-- sum of as many parts: `power_sum_is` is its law, and `SetsOfNodes.summed` what a clause says of it
 unfoldable pub power_sum : (ℕ → Bool) → ℕ → ℕ
 power_sum test zero = 0
 power_sum test (suc k) = (if test k then 2 ^ k else 0) + power_sum test k

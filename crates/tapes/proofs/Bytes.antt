@@ -1,5 +1,7 @@
 -- Valve records in bytes: which bytes a record depends on, and what writing one changes.
 use Rattle.std.proofs.Common.{◌≡◌, ℕ, ◌+◌, ◌*◌, ◌/◌, ◌%◌, ◌<◌, ◌≤◌, ◌≢◌, List, [], ◌∷◌, ◌++◌, length, get_or, take, drop, set, suc, zero, Some, None, Option, MatchOption, Ok, Err, Result, below_more, sym, refl, ap, ◌∙◌, subst, inl, inr, arith, length-set}
+use mathlib.Core.Logic.{∥∥₁_elim}
+use Rattle.std.proofs.Math.Bridge.{le_prop}
 use Rattle.refusals.specs.declared.Refusal.{Refusal}
 use Rattle.states.proofs.Records.{same_valve}
 use Rattle.states.specs.declared.valve.ValveRecord.{ValveRecord}
@@ -69,7 +71,7 @@ module _ (n : ℕ) (bytes : List ℕ) (within : n ≤ length bytes / 3) where
       ap (λ m. valves m (take (3 * n) bytes)) records_taken
       ∙ valves_front n (take (3 * n) bytes) bytes (λ j below. get_or-take (3 * n) bytes j 0 below)
 
-  pub encodes_taken : LawfulPumps n bytes → Encodes (take (3 * n) bytes) (valves n bytes)
+  pub encodes_taken : ∥ LawfulPumps n bytes ∥₁ → Encodes (take (3 * n) bytes) (valves n bytes)
   encodes_taken pumps =
       let taken = take (3 * n) bytes in
       let whole : length taken % 3 ≡ 0 = omega (arith, length-take-le (3 * n) bytes (omega arith)) in
@@ -79,7 +81,7 @@ module _ (n : ℕ) (bytes : List ℕ) (within : n ≤ length bytes / 3) where
       lawful k below =
           let there : k < n = omega (arith, records_taken) in
           let front : 3 * k + 2 < 3 * n = omega arith in
-          rw get_or-take (pumps k there)
+          rw get_or-take (∥∥₁_elim pumps le_prop (λ p. p k there))
 
 pub length-written : (bytes : List ℕ) (n : ℕ) (v : ValveRecord) → length (written bytes n v) ≡ length bytes
 length-written bytes n v = simp length-set

@@ -4,25 +4,14 @@ ghost use Rattle.tapes.specs.Windows.{Checked, Inside};
 
 use crate::tape::Tape;
 use refusals::{Cause, Refusal};
-use std::marker::Model;
 use std::ops::Range;
 
-// A part of a tape, which is again a tape: seen as the states of that part.
+// A part of a tape, which is again a tape. That the part lies within the tape is not said by the type:
+// with that a window could not stand in another type's bound yet, as in `F: FnOnce(Window<T>)`.
 #[derive(Drop)]
 pub struct Window<T: Tape> {
     below: T,
     part: Range<usize>,
-}
-
-impl<T: Tape> Model for Window<T> {
-    ghost use Rattle.std.specs.Prelude.{◌≤◌, List, length};
-    ghost use Rattle.std.specs.List.{between};
-
-    ghost Value = { List T.Item };
-
-    ghost view = { λ w. between w.part.start w.part.end (T.Tape.states w.below) };
-
-    ghost invariant = { λ w. (w.part.start ≤ w.part.end) × (w.part.end ≤ length (T.Tape.states w.below)) };
 }
 
 impl<T: Tape> Window<T> {
@@ -40,7 +29,7 @@ impl<T: Tape> Window<T> {
     // The window over a part that `check` has found.
     pub fn new(below: T, part: Range<usize>) -> Window<T>
         requires { Inside (length (T.Tape.states below)) part.start part.end }
-        ensures { result ≡ between part.start part.end (T.Tape.states below) }
+        ensures { between result.part.start result.part.end (T.Tape.states result.below) ≡ between part.start part.end (T.Tape.states below) }
     {
         Window { below, part }
     }
@@ -49,17 +38,16 @@ impl<T: Tape> Window<T> {
 impl<T: Tape> Tape for Window<T> {
     type Item = T::Item;
 
-    ghost states = { λ states. states };
+    ghost states = { λ w. between w.part.start w.part.end (T.Tape.states w.below) };
 
+    // The end is within the tape below, but the type does not say so: hence `min`.
     fn len(&self) -> usize {
-        self.part.len()
+        let end = self.part.end.min(self.below.len());
+        end.saturating_sub(self.part.start)
     }
 
     fn at(&self, place: usize) -> Option<T::Item> {
-        if place < self.part.end - self.part.start {
-            self.below.at(self.part.start + place)
-        } else {
-            None
-        }
+        let at = self.part.start.saturating_add(place);
+        self.below.at(at).filter(|_| at < self.part.end)
     }
 }

@@ -32,7 +32,7 @@ operators = not_word ∷ unary_word Next ∷ unary_word Always ∷ unary_word Ev
 abbrev in_range : ℕ → ℕ → ℕ → Bool
 in_range least most n = nat_le least n && nat_le n most
 
-abbrev among : List (List ℕ) → List ℕ → Bool
+abbrev pub among : List (List ℕ) → List ℕ → Bool
 among words w = list_any (λ v. bytes_eq v w) words
 
 abbrev different : List (List ℕ) → Bool

@@ -97,3 +97,19 @@ fn a_window_takes_a_growing_tape_along(rt: HostRuntime) -> Result<(), Fail> {
     );
     Ok(())
 }
+
+// That a window of any tape can stand in a bound.
+fn asked<T: Tape + Drop, F: FnOnce(Window<T>) -> usize>(window: Window<T>, ask: F) -> usize
+    requires { F.IsAlwaysCallable ask }
+{
+    ask(window)
+}
+
+#[test]
+fn a_window_is_handed_to_a_closure(rt: HostRuntime) -> Result<(), Fail> {
+    let cells = [idle()?; 3];
+    let tape = Cells::new(&cells);
+    Window::check(&tape, 1..3)?;
+    assert_eq!(rt; asked(Window::new(tape, 1..3), |window| window.len()), 2);
+    Ok(())
+}

@@ -11,7 +11,7 @@ encodes bytes after v long is =
     let room : 0 < length bytes / 3 = omega arith in
     let pumps = pumps_written bytes 0 v room (λ k below. absurd (omega arith)) in
     let within : 1 ≤ length (written bytes 0 v) / 3 = omega (arith, length-written bytes 0 v) in
-    let there = subst (Encodes (take 3 (written bytes 0 v))) (valves_written bytes 0 v room) (encodes_taken 1 (written bytes 0 v) within pumps) in
+    let there = subst (Encodes (take 3 (written bytes 0 v))) (valves_written bytes 0 v room) (encodes_taken 1 (written bytes 0 v) within ∣ pumps ∣₁) in
     subst (λ (xs : List ℕ). Encodes (take 3 xs) (v ∷ [])) (sym is) there
 
 first : (v : ValveRecord) (r : Option ValveRecord) → Found (v ∷ []) 0 r → r ≡ Some v
