@@ -7,7 +7,7 @@ use refusals::{Cause, Refusal};
 use std::ops::Range;
 
 // A part of a tape, which is again a tape. That the part lies within the tape is not said by the type:
-// with that a window could not stand in another type's bound yet, as in `F: FnOnce(Window<T>)`.
+// with that a window of any tape could not stand in a closure's bound yet, as in `F: FnOnce(Window<T>)`.
 #[derive(Drop)]
 pub struct Window<T: Tape> {
     below: T,
@@ -46,6 +46,7 @@ impl<T: Tape> Tape for Window<T> {
         end.saturating_sub(self.part.start)
     }
 
+    // A place past the largest number is taken as that, which is not before any end.
     fn at(&self, place: usize) -> Option<T::Item> {
         let at = self.part.start.saturating_add(place);
         self.below.at(at).filter(|_| at < self.part.end)

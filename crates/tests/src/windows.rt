@@ -98,7 +98,7 @@ fn a_window_takes_a_growing_tape_along(rt: HostRuntime) -> Result<(), Fail> {
     Ok(())
 }
 
-// That a window of any tape can stand in a bound.
+// That a window of any tape can stand in a closure's bound.
 fn asked<T: Tape + Drop, F: FnOnce(Window<T>) -> usize>(window: Window<T>, ask: F) -> usize
     requires { F.IsAlwaysCallable ask }
 {
