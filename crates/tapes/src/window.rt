@@ -46,7 +46,7 @@ impl<T: Tape> Tape for Window<T> {
         end.saturating_sub(self.part.start)
     }
 
-    // A place past the largest number is taken as that, which is not before any end.
+    // A sum past the largest number is taken as that number, which is before no end.
     fn at(&self, place: usize) -> Option<T::Item> {
         let at = self.part.start.saturating_add(place);
         self.below.at(at).filter(|_| at < self.part.end)
